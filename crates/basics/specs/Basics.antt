@@ -1,0 +1,71 @@
+-- Small tests, quoted texts and lists. A text is a list of codes (Unicode code points); bytes are a list of numbers below 256.
+-- Assumes nothing.
+use Prim.Native.Nat.{ℕ, zero, suc, _+_}
+use Prim.Native.Char.{Char, code}
+use Prim.Native.String.{String}
+use Prim.Native.String
+use mathlib.Core.Bool.{Bool, true, false, _&&_, _||_}
+use mathlib.Core.List.{List, [], _∷_, _++_}
+use mathlib.Core.Option.{Option, none, some}
+use lib.Dec.{eqb, leb}
+
+infixr 10 if_then_else_
+abbrev pub if_then_else_ {ℓ} : {A : Type ℓ} → Bool → A → A → A
+if true then a else b = a
+if false then a else b = b
+
+-- from lo to hi, both in
+abbrev pub within : ℕ → ℕ → ℕ → Bool
+within lo hi x = leb lo x && leb x hi
+
+-- the codes of a quoted text
+abbrev pub letters : String → List ℕ
+letters String.[] = []
+letters (String._∷_ c s) = code c ∷ letters s
+
+-- the code n is the character c
+abbrev pub is : Char → ℕ → Bool
+is c n = eqb n (code c)
+
+-- n is one of the codes
+abbrev pub among : List ℕ → ℕ → Bool
+among [] n = false
+among (c ∷ cs) n = eqb n c || among cs n
+
+-- two lists of numbers are equal
+unfoldable pub same : List ℕ → List ℕ → Bool
+same [] [] = true
+same [] (b ∷ bs) = false
+same (a ∷ l) [] = false
+same (a ∷ l) (b ∷ bs) = eqb a b && same l bs
+
+-- a text is the quoted one
+abbrev pub spells : String → List ℕ → Bool
+spells s t = same (letters s) t
+
+-- the first code, or 0, which is no mark
+abbrev pub head : List ℕ → ℕ
+head [] = 0
+head (c ∷ cs) = c
+
+module _ {A : Type 0} where
+  -- all pass the test
+  unfoldable pub every : (A → Bool) → List A → Bool
+  every p [] = true
+  every p (x ∷ xs) = p x && every p xs
+
+  -- the lists one after another
+  unfoldable pub concat : List (List A) → List A
+  concat [] = []
+  concat (xs ∷ xss) = xs ++ concat xss
+
+  -- the last one, if there is one, as a list
+  unfoldable pub lastOf : List A → List A
+  lastOf [] = []
+  lastOf (x ∷ []) = x ∷ []
+  lastOf (x ∷ y ∷ ys) = lastOf (y ∷ ys)
+
+  -- those of which the function makes something
+  unfoldable pub picked : {B : Type 0} → (B → Option A) → List B → List A
+  picked f [] = []
+  picked f (x ∷ xs) = elim (f x) [ none ↦ picked f xs | some a ↦ a ∷ picked f xs ]

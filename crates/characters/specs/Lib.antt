@@ -1,0 +1,5 @@
+pub mod Utf8
+pub mod Places
+pub mod Spans
+pub mod Alphabetic
+pub mod Classes

@@ -1,0 +1,1 @@
+// Trivia, tokens, escapes and sets.
