@@ -59,6 +59,15 @@ module _ {A : Type 0} where
   concat [] = []
   concat (xs ∷ xss) = xs ++ concat xss
 
+  abbrev pub isEmpty : List A → Bool
+  isEmpty [] = true
+  isEmpty (x ∷ xs) = false
+
+  -- the first one, if there is one
+  abbrev pub firstOf : List A → Option A
+  firstOf [] = none
+  firstOf (x ∷ xs) = some x
+
   -- the last one, if there is one, as a list
   unfoldable pub lastOf : List A → List A
   lastOf [] = []

@@ -1,0 +1,6 @@
+pub mod Syntax
+pub mod CharClasses
+pub mod Records
+pub mod Stored
+pub mod OneTree
+pub mod Equality

@@ -1,0 +1,98 @@
+-- Stored records: seven words each, children before their parent, and the texts one after another in the order of the records.
+-- Assumes nothing.
+use Prim.Native.Nat.{ℕ, zero, suc, _+_}
+use mathlib.Core.List.{List, [], _∷_, _++_}
+use lib.ListN.{length}
+
+infixr 67 _∷ᴮ_
+
+-- a record but for the place of its text and the number of its children. The text is in bytes
+pub record Row : Type 0 where
+  pub kind : ℕ
+  pub start : ℕ
+  pub text : List ℕ
+  pub value : ℕ
+  pub second : ℕ
+
+-- a record with those below it
+mutual
+  pub data Branch : Type 0 where
+    branch : Row → Branches → Branch
+
+  pub data Branches : Type 0 where
+    []ᴮ : Branches
+    _∷ᴮ_ : Branch → Branches → Branches
+
+-- how many
+unfoldable pub count : Branches → ℕ
+count []ᴮ = 0
+count (b ∷ᴮ bs) = 1 + count bs
+
+-- a row with the number of its children
+pub record Node : Type 0 where
+  pub row : Row
+  pub children : ℕ
+
+-- children before their parent
+unfoldable mutual
+  pub nodes : Branch → List Node
+  nodes (branch r bs) = nodesAll bs ++ (record { row = r; children = count bs } ∷ [])
+
+  pub nodesAll : Branches → List Node
+  nodesAll []ᴮ = []
+  nodesAll (b ∷ᴮ bs) = nodes b ++ nodesAll bs
+
+-- the words of a record: kind, start, text place, text length, value, second, children
+pub record Record : Type 0 where
+  pub kind : ℕ
+  pub start : ℕ
+  pub place : ℕ
+  pub size : ℕ
+  pub value : ℕ
+  pub second : ℕ
+  pub children : ℕ
+
+-- how many words a record has
+unfoldable pub width : ℕ
+width = 7
+
+abbrev pub wordsOf : Record → List ℕ
+wordsOf r = r .kind ∷ r .start ∷ r .place ∷ r .size ∷ r .value ∷ r .second ∷ r .children ∷ []
+
+-- an empty text has place 0
+abbrev pub placeOf : (at size : ℕ) → ℕ
+placeOf at zero = 0
+placeOf at (suc n) = at
+
+abbrev pub recordOf : (at : ℕ) → Node → Record
+recordOf at x =
+    record {
+      kind = x .row .kind;
+      start = x .row .start;
+      place = placeOf at (length (x .row .text));
+      size = length (x .row .text);
+      value = x .row .value;
+      second = x .row .second;
+      children = x .children }
+
+-- the records of nodes whose texts stand from a place on
+unfoldable pub recordsFrom : (at : ℕ) → List Node → List Record
+recordsFrom at [] = []
+recordsFrom at (x ∷ xs) = recordOf at x ∷ recordsFrom (at + length (x .row .text)) xs
+
+unfoldable pub words : List Record → List ℕ
+words [] = []
+words (r ∷ rs) = wordsOf r ++ words rs
+
+unfoldable pub textsOf : List Node → List ℕ
+textsOf [] = []
+textsOf (x ∷ xs) = x .row .text ++ textsOf xs
+
+-- the records and the texts of a tree
+unfoldable pub records : Branch → List Record
+unfolding count nodes recordsFrom
+records b = recordsFrom 0 (nodes b)
+
+unfoldable pub texts : Branch → List ℕ
+unfolding count nodes textsOf
+texts b = textsOf (nodes b)

@@ -1,0 +1,1 @@
+// The normal text of a stored tree.
