@@ -48,7 +48,8 @@ readBy text records texts (tree g) =
     record {
       answer = stored (length (grammarWords g)) (length (grammarTexts g));
       records = over (grammarWords g) records;
-      texts = over (grammarTexts g) texts }
+      texts = over (grammarTexts g) texts;
+    }
 
 unfoldable pub read : (text records texts : List ℕ) → ReadOutcome
 unfolding lineFeeds lineStart lineAt columnAt refusalAt reading roomFor grammarWords grammarTexts

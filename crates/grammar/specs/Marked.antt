@@ -69,10 +69,10 @@ marked =
     ∷ stops "@top T{a|(~x)}" 17 10
     ∷ stops "@top T{$[a--]}" 20 7
     ∷ stores "@top T{$[+--]}"
-      (38 ∷ 7 ∷ 0 ∷ 0 ∷ 43 ∷ 46 ∷ 0 ∷ 37 ∷ 7 ∷ 0 ∷ 0 ∷ 0 ∷ 0 ∷ 1 ∷ 2 ∷ 5 ∷ 0 ∷ 1 ∷ 0 ∷ 0 ∷ 1 ∷ 1 ∷ 0 ∷ 0 ∷ 0 ∷ 0 ∷ 0 ∷ 1 ∷ [])
+    (38 ∷ 7 ∷ 0 ∷ 0 ∷ 43 ∷ 46 ∷ 0 ∷ 37 ∷ 7 ∷ 0 ∷ 0 ∷ 0 ∷ 0 ∷ 1 ∷ 2 ∷ 5 ∷ 0 ∷ 1 ∷ 0 ∷ 0 ∷ 1 ∷ 1 ∷ 0 ∷ 0 ∷ 0 ∷ 0 ∷ 0 ∷ 1 ∷ [])
     ∷ stops "@top T{$[aa]}" 21 7
     ∷ stores "@top T{$[-a]}"
-      (38 ∷ 7 ∷ 0 ∷ 0 ∷ 45 ∷ 46 ∷ 0 ∷ 38 ∷ 7 ∷ 0 ∷ 0 ∷ 97 ∷ 98 ∷ 0 ∷ 37 ∷ 7 ∷ 0 ∷ 0 ∷ 0 ∷ 0 ∷ 2 ∷ 2 ∷ 5 ∷ 0 ∷ 1 ∷ 0 ∷ 0 ∷ 1 ∷ 1 ∷ 0 ∷ 0 ∷ 0 ∷ 0 ∷ 0 ∷ 1 ∷ [])
+    (38 ∷ 7 ∷ 0 ∷ 0 ∷ 45 ∷ 46 ∷ 0 ∷ 38 ∷ 7 ∷ 0 ∷ 0 ∷ 97 ∷ 98 ∷ 0 ∷ 37 ∷ 7 ∷ 0 ∷ 0 ∷ 0 ∷ 0 ∷ 2 ∷ 2 ∷ 5 ∷ 0 ∷ 1 ∷ 0 ∷ 0 ∷ 1 ∷ 1 ∷ 0 ∷ 0 ∷ 0 ∷ 0 ∷ 0 ∷ 1 ∷ [])
     ∷ stops "@top T{x[]<p>{}}" 15 7
     ∷ stops "@top T{@specialize<a>}" 16 7
     ∷ stops "/*" 4 0
@@ -127,11 +127,11 @@ edges =
     -- props, external declarations, groups
     ∷ writes "a[@x=y.z{w}]{} @top T{[]{}}" "@top T { _anon { } }\na [ @x = \"y\" \".\" \"z\" { w } ] { }\n"
     ∷ writes "@external tokens a from 'b'{@conflict{c}d,@conflict{e}f[g]}@top T{}"
-      "@top T { }\n@external tokens a from \"b\" { d , f [ g ] , @conflict { c , e } }\n"
+    "@top T { }\n@external tokens a from \"b\" { d , f [ g ] , @conflict { c , e } }\n"
     ∷ writes "@detectDelim @external prop p from 'q' @skip{a}{b{} @top T{}}"
-      "@skip { a } { @top T { } b { } }\n@external prop p as p from \"q\"\n@detectDelim\n"
+    "@skip { a } { @top T { } b { } }\n@external prop p as p from \"q\"\n@detectDelim\n"
     ∷ writes "@tokens{x{y}@conflict{a 'b'}'l'@precedence{c,d}}@top T{}"
-      "@top T { }\n@tokens { @precedence { c , d } @conflict { a , \"b\" } x { y } \"l\" }\n"
+    "@top T { }\n@tokens { @precedence { c , d } @conflict { a , \"b\" } x { y } \"l\" }\n"
     -- 63 and 64 brackets around a name, 64 and 65 repeat marks
     ∷ writes "@top T{(((((((((((((((((((((((((((((((((((((((((((((((((((((((((((((((a)))))))))))))))))))))))))))))))))))))))))))))))))))))))))))))))}" "@top T { a }\n"
     ∷ stops "@top T{((((((((((((((((((((((((((((((((((((((((((((((((((((((((((((((((a" 3 71

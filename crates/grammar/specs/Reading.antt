@@ -41,9 +41,9 @@ readChecked text (IllAt p) = stopped notUtf8 p
 
 unfoldable pub reading : List ℕ → Reading
 unfolding
-  row leadLen charOf firstChar onChar checkFrom check codesFrom isScalar encode inSpans spans isAlphabetic whiteSpace isWhitespace
-  isEcmascriptWhitespace isLineTerminator isPunctuation isWord run comment body solid piece tokensFrom tokens hexDigit scalar fixed
-  untilBrace braced control escape atomsFrom decodeString rangeEnd written overlapsOne faultFrom insert sorted parseGrammar longest
+    row leadLen charOf firstChar onChar checkFrom check codesFrom isScalar encode inSpans spans isAlphabetic whiteSpace isWhitespace
+    isEcmascriptWhitespace isLineTerminator isPunctuation isWord run comment body solid piece tokensFrom tokens hexDigit scalar fixed
+    untilBrace braced control escape atomsFrom decodeString rangeEnd written overlapsOne faultFrom insert sorted parseGrammar longest
 reading text = elim (ltb longest (length text)) [ true ↦ stopped tooLong 0 | false ↦ readChecked text (check text) ]
 
 -- a text is accepted when none of 1 to 21 stops it

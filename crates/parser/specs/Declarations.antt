@@ -95,7 +95,8 @@ module _ {S : Type 0} where
       precedences = picked tokenPrecedence ms;
       conflicts = picked tokenConflict ms;
       rules = picked tokenRule ms;
-      literals = picked tokenLiteral ms })
+      literals = picked tokenLiteral ms;
+    })
 
   -- a second `@else` is taken, and a rule read
   unfoldable pub parseLocalMember : List (LocalMember S) → Parser S (LocalMember S)
@@ -104,8 +105,8 @@ module _ {S : Type 0} where
     choose (says "precedence" (atIn k)) (parseTokenPrecedence >>= λ x. pure (LocalMember.precedence x)) (do
       isElse ← eatAt "else"
       choose (isElse && isEmpty (picked localFallback before))
-        (parseNamedNode >>= λ x. pure (LocalMember.fallback x))
-        (parseRule >>= λ x. pure (LocalMember.rule x)))
+          (parseNamedNode >>= λ x. pure (LocalMember.fallback x))
+          (parseRule >>= λ x. pure (LocalMember.rule x)))
 
   -- after `@local tokens`
   unfoldable pub parseLocalTokens : S → Parser S (LocalTokenDeclaration S)
@@ -115,7 +116,8 @@ module _ {S : Type 0} where
       start = p;
       precedences = picked localPrecedence ms;
       rules = picked localRule ms;
-      fallback = firstOf (picked localFallback ms) })
+      fallback = firstOf (picked localFallback ms);
+    })
 
   -- ------------------------------------------------------------------ external declarations
 
@@ -142,7 +144,8 @@ module _ {S : Type 0} where
       id = n .name;
       source = s;
       tokens = picked externalToken ms;
-      conflicts = concat (picked externalConflicts ms) }))
+      conflicts = concat (picked externalConflicts ms);
+    }))
 
   unfoldable pub parseExternalSpecializer : S → SpecializeKind → Parser S (Declaration S)
   parseExternalSpecializer p k = do
@@ -156,7 +159,8 @@ module _ {S : Type 0} where
       token = e;
       id = n .name;
       source = s;
-      tokens = picked externalToken ms }))
+      tokens = picked externalToken ms;
+    }))
 
   unfoldable pub parseExternalPropSource : S → Parser S (Declaration S)
   parseExternalPropSource p = do
@@ -237,10 +241,10 @@ module _ {S : Type 0} where
     e ← parseBracedExpression outermost
     k ← kind
     choose (isMark "{" k)
-      (do
-        ms ← block nothing parseSkipMember
-        pure (Declaration.scopedSkip (record { expression = e; topRules = picked skipTopRule ms; rules = picked skipRule ms })))
-      (choose (seen 22 before) (refuse secondSkip p) (pure (Declaration.mainSkip e)))
+        (do
+          ms ← block nothing parseSkipMember
+          pure (Declaration.scopedSkip (record { expression = e; topRules = picked skipTopRule ms; rules = picked skipRule ms })))
+        (choose (seen 22 before) (refuse secondSkip p) (pure (Declaration.mainSkip e)))
 
   -- ------------------------------------------------------------------ the top level
 
@@ -299,20 +303,21 @@ module _ {S : Type 0} where
         declarations = grouped (picked declared ms);
         dialects = concat (lastOf (picked declaredDialects ms));
         externalProps = picked declaredProp ms;
-        autoDelimiters = not (isEmpty (picked detects ms)) }
+        autoDelimiters = not (isEmpty (picked detects ms));
+      }
 
   -- the whole: declarations up to the end, at which a missing `@top` is refused
   unfoldable pub parseGrammar : Parser S (GrammarDeclaration S)
   unfolding
-    same concat lastOf picked decodeString expressions ofKind groups hasKind levels repeats
-    _>>=_ P.startOf P.kindOf next eat eatName eatAt expect expectName expectString parseIdentifier size turns loop untilStep
-    parsePart propNamed parseProp parseProps parseSetExpression parseRepeat repeated slots firstEmptyArm parseBracedExpression parseRuleNamed
-    parseInlineRuleExpression parseSpecializeExpression parseParenthesizedExpression parseArguments parseNamed parseExpressionInner
-    parseExpressionSuffix parseItem parseExpressionSequence parseArm parseExpressionChoice choiceAt
-    parseRule parseTokenReference parseTokenPrecedence parseTokenConflict parseLiteral parseNamedNode parseTokenMember parseTokens
-    parseLocalMember parseLocalTokens parseSource parseExternalMember parseExternalTokenSet parseExternalTokens parseExternalSpecializer
-    parseExternalPropSource parseExternalProp parseExternalDeclaration parsePrecKind parsePrecItem parsePrecedence parseContextDeclaration
-    parseSkipMember parseSkipDeclaration parseDirective parseDeclaration hasTop
+      same concat lastOf picked decodeString expressions ofKind groups hasKind levels repeats
+      _>>=_ P.startOf P.kindOf next eat eatName eatAt expect expectName expectString parseIdentifier size turns loop untilStep
+      parsePart propNamed parseProp parseProps parseSetExpression parseRepeat repeated slots firstEmptyArm parseBracedExpression parseRuleNamed
+      parseInlineRuleExpression parseSpecializeExpression parseParenthesizedExpression parseArguments parseNamed parseExpressionInner
+      parseExpressionSuffix parseItem parseExpressionSequence parseArm parseExpressionChoice choiceAt
+      parseRule parseTokenReference parseTokenPrecedence parseTokenConflict parseLiteral parseNamedNode parseTokenMember parseTokens
+      parseLocalMember parseLocalTokens parseSource parseExternalMember parseExternalTokenSet parseExternalTokens parseExternalSpecializer
+      parseExternalPropSource parseExternalProp parseExternalDeclaration parsePrecKind parsePrecItem parsePrecedence parseContextDeclaration
+      parseSkipMember parseSkipDeclaration parseDirective parseDeclaration hasTop
   parseGrammar = do
     arrive
     p ← here

@@ -52,8 +52,8 @@ pub data Group : Type 0 where
 unfoldable pub groupsOf : (kind value : ℕ) → List Group
 groupsOf k v =
     if eqb k 1 then
-      many (2 ∷ []) ∷ many (3 ∷ []) ∷ many (8 ∷ []) ∷ many (12 ∷ []) ∷ many (14 ∷ []) ∷ many (16 ∷ []) ∷ many (18 ∷ [])
-      ∷ many (19 ∷ []) ∷ many (20 ∷ []) ∷ many (22 ∷ []) ∷ many (23 ∷ []) ∷ many (24 ∷ []) ∷ many (25 ∷ []) ∷ []
+    many (2 ∷ []) ∷ many (3 ∷ []) ∷ many (8 ∷ []) ∷ many (12 ∷ []) ∷ many (14 ∷ []) ∷ many (16 ∷ []) ∷ many (18 ∷ [])
+    ∷ many (19 ∷ []) ∷ many (20 ∷ []) ∷ many (22 ∷ []) ∷ many (23 ∷ []) ∷ many (24 ∷ []) ∷ many (25 ∷ []) ∷ []
     else if within 2 3 k then many (5 ∷ []) ∷ many (4 ∷ []) ∷ one expressionKinds ∷ []
     else if eqb k 5 then many (6 ∷ 7 ∷ []) ∷ []
     else if eqb k 8 then many (9 ∷ []) ∷ many (10 ∷ []) ∷ many (3 ∷ []) ∷ many (11 ∷ []) ∷ []

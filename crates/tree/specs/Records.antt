@@ -5,7 +5,6 @@ use mathlib.Core.List.{List, [], _∷_, _++_}
 use lib.ListN.{length}
 
 infixr 67 _∷ᴮ_
-
 -- a record but for the place of its text and the number of its children. The text is in bytes
 pub record Row : Type 0 where
   pub kind : ℕ
@@ -73,7 +72,8 @@ recordOf at x =
       size = length (x .row .text);
       value = x .row .value;
       second = x .row .second;
-      children = x .children }
+      children = x .children;
+    }
 
 -- the records of nodes whose texts stand from a place on
 unfoldable pub recordsFrom : (at : ℕ) → List Node → List Record

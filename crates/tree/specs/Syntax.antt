@@ -9,7 +9,6 @@ use lib.Dec.{eqb}
 use Rattle.characters.specs.Spans.{Span}
 
 infixr 67 _∷ᴱ_
-
 pub record Identifier (S : Type 0) : Type 0 where
   pub start : S
   pub name : List ℕ
