@@ -4,7 +4,9 @@ use Prim.Native.Nat.{ℕ}
 use mathlib.Core.List.{List, [], _∷_}
 use mathlib.Core.Option.{Option, none, some}
 use Rattle.basics.specs.Basics.{if_then_else_, spells}
+use mathlib.Core.Path.{_≡_, refl}
 use Rattle.characters.specs.Spans.{Span, _upto_}
+use Rattle.characters.specs.Classes.{whiteSpace}
 use Rattle.tree.specs.Syntax.{CharClass, asciiLetter, asciiLowercase, asciiUppercase, digit, whitespace, eof}
 
 -- `CharClass::from_name`
@@ -37,3 +39,8 @@ ranges whitespace =
     9 upto 14 ∷ 32 upto 33 ∷ 133 upto 134 ∷ 160 upto 161 ∷ 5760 upto 5761 ∷ 8192 upto 8203 ∷ 8232 upto 8234 ∷ 8239 upto 8240
     ∷ 8287 upto 8288 ∷ 12288 upto 12289 ∷ []
 ranges eof = []
+
+-- the class whitespace is Unicode's White_Space
+pub whitespace-is-white-space : ranges whitespace ≡ whiteSpace
+unfolding ranges whiteSpace
+whitespace-is-white-space = refl

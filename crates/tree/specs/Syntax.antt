@@ -5,6 +5,7 @@ use Prim.Native.Nat.{ℕ}
 use mathlib.Core.Bool.{Bool, true, false, _||_}
 use mathlib.Core.List.{List, [], _∷_, _++_}
 use mathlib.Core.Option.{Option, none, some}
+use mathlib.Core.Path.{_≡_}
 use lib.Dec.{eqb}
 use Rattle.characters.specs.Spans.{Span}
 
@@ -172,7 +173,7 @@ pub data Declaration (S : Type 0) : Type 0 where
   mainSkip : Expression S → Declaration S
   scopedSkip : ScopedSkipDeclaration S → Declaration S
 
--- the declarations stand in groups (`grouped`, below)
+-- the declarations stand in groups (`Grouped`, below)
 pub record GrammarDeclaration (S : Type 0) : Type 0 where
   pub start : S
   pub declarations : List (Declaration S)
@@ -208,6 +209,10 @@ module _ {S : Type 0} where
   -- in the order of groups that a grammar's record has
   abbrev pub grouped : List (Declaration S) → List (Declaration S)
   grouped ds = groups (2 ∷ 3 ∷ 8 ∷ 12 ∷ 14 ∷ 16 ∷ 18 ∷ 19 ∷ 20 ∷ 22 ∷ 23 ∷ []) ds
+
+  -- what is read has its declarations in groups
+  abbrev pub Grouped : GrammarDeclaration S → Type 0
+  Grouped g = grouped (g .declarations) ≡ g .declarations
 
   -- one of them is of the kind
   unfoldable pub hasKind : ℕ → List (Declaration S) → Bool
