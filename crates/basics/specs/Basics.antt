@@ -74,7 +74,21 @@ module _ {A : Type 0} where
   lastOf (x ∷ []) = x ∷ []
   lastOf (x ∷ y ∷ ys) = lastOf (y ∷ ys)
 
-  -- those of which the function makes something
+  -- one more in front, if there is one; if a test says so
+  abbrev pub orNot : Option A → List A → List A
+  orNot none xs = xs
+  orNot (some x) xs = x ∷ xs
+
+  abbrev pub keepIf : Bool → A → List A → List A
+  keepIf true x xs = x ∷ xs
+  keepIf false x xs = xs
+
+  -- those that pass a test
+  unfoldable pub kept : (A → Bool) → List A → List A
+  kept p [] = []
+  kept p (x ∷ xs) = keepIf (p x) x (kept p xs)
+
+  -- what a function makes of those of which it makes something
   unfoldable pub picked : {B : Type 0} → (B → Option A) → List B → List A
   picked f [] = []
-  picked f (x ∷ xs) = elim (f x) [ none ↦ picked f xs | some a ↦ a ∷ picked f xs ]
+  picked f (x ∷ xs) = orNot (f x) (picked f xs)

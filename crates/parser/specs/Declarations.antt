@@ -5,16 +5,16 @@ use mathlib.Core.Bool.{Bool, true, false, _&&_, _||_, not}
 use mathlib.Core.List.{List, [], _∷_, _++_}
 use mathlib.Core.Option.{Option, none, some}
 use lib.Dec.{eqb}
-use Rattle.basics.specs.Basics.{if_then_else_, spells, same, concat, lastOf, firstOf, isEmpty, picked}
+use Rattle.basics.specs.Basics.{if_then_else_, spells, same, concat, lastOf, firstOf, isEmpty, kept, picked}
 use Rattle.error.specs.Causes.{topWithoutName, secondTokens, secondPrecedence, secondContext, secondSkip, noTop, badPrecedence, badConflict}
 use Rattle.lexer.specs.Tokens.{Kind, Tokens}
 use Rattle.lexer.specs.Escapes.{decodeString}
-use Rattle.tree.specs.Syntax.{Identifier, Expression, SpecializeKind, RuleDeclaration, TokenReference, TokenPrecDeclaration, TokenConflictDeclaration, LiteralDeclaration, NamedNode, TokenDeclaration, LocalTokenDeclaration, ContextDeclaration, ExternalTokenDeclaration, ExternalSpecializeDeclaration, ExternalPropSourceDeclaration, ExternalPropDeclaration, PrecKind, PrecItem, PrecDeclaration, ScopedSkipDeclaration, Declaration, GrammarDeclaration, startOf, expressions, declarationKind, ofKind, groups, grouped, hasKind}
+use Rattle.tree.specs.Syntax.{Identifier, Expression, SpecializeKind, RuleDeclaration, TokenReference, TokenPrecDeclaration, TokenConflictDeclaration, LiteralDeclaration, NamedNode, TokenDeclaration, LocalTokenDeclaration, ContextDeclaration, ExternalTokenDeclaration, ExternalSpecializeDeclaration, ExternalPropSourceDeclaration, ExternalPropDeclaration, PrecKind, PrecItem, PrecDeclaration, ScopedSkipDeclaration, Declaration, GrammarDeclaration, startOf, expressions, declarationKind, groups, grouped, hasKind}
 use Rattle.parser.specs.Members.{TokenMember, tokenPrecedence, tokenConflict, tokenRule, tokenLiteral, LocalMember, localPrecedence, localRule, localFallback, SkipMember, skipTopRule, skipRule, ExternalMember, externalToken, externalConflicts, Member, declaration, dialects, externalProp, detectDelim, declared, declaredDialects, declaredProp, detects}
 use Rattle.parser.specs.Limits.{levels, repeats}
-use Rattle.parser.specs.Parser.{Answer, read, refused, Parser, _>>=_, _>>_, pure, refuse, choose, here, kind, refuseHere, unexpected, arrive, next, isEnd, isMark, nameIn, atIn, stringIn, says, eat, eatName, eatAt, expect, expectName, expectString, parseIdentifier, size, turns, loop, untilStep, until, commaOrNot, nothing}
+use Rattle.parser.specs.Parser.{Answer, read, refused, Parser, _>>=_, _>>_, pure, refuse, choose, here, kind, refuseHere, unexpected, arrive, next, isEnd, isMark, nameIn, atIn, stringIn, says, eat, eatName, eatAt, expect, expectName, expectString, parseIdentifier, size, turns, loop, untilStep, until, commaOrNot, nothing, andThen, eatIf, must, taken, separate}
 use Rattle.parser.specs.Parser as P
-use Rattle.parser.specs.Expressions.{parsePart, propNamed, parseProp, parseProps, parseSetExpression, referenceOf, parseRepeat, repeated, slots, firstEmptyArm, parseBracedExpression, parseRuleNamed, parseInlineRuleExpression, parseSpecializeExpression, parseParenthesizedExpression, parseArguments, parseNamed, parseExpressionInner, parseExpressionSuffix, parseItem, parseExpressionSequence, parseArm, parseExpressionChoice, choiceAt, outermost}
+use Rattle.parser.specs.Expressions.{parsePart, propNamed, parseProp, parseProps, parseSetExpression, referenceOf, parseRepeat, repeated, slots, firstEmptyArm, parseBracedExpression, parseRuleNamed, parseInlineRuleExpression, parseSpecializeExpression, parseParenthesizedExpression, parseArguments, parseNamed, parseExpressionInner, parseExpressionSuffix, parseItem, parseExpressionSequence, parseArm, parseExpressionChoice, choiceAt, outermost, partBy, propBy, classBy, stdClassBy, setBy, literalOf, contentBy, inlineBy, stacked, repeatBy, sequenceOf, isEmptyArm, choiceBy, choiceOf, innerBy, itemBy}
 
 module _ {S : Type 0} where
   -- ------------------------------------------------------------------ rules and blocks
@@ -32,7 +32,7 @@ module _ {S : Type 0} where
 
   -- ------------------------------------------------------------------ token blocks
 
-  abbrev pub referenceBy : (cause : ℕ) → S → Option (TokenReference S) → Parser S (TokenReference S)
+  unfoldable pub referenceBy : (cause : ℕ) → S → Option (TokenReference S) → Parser S (TokenReference S)
   referenceBy n p none = refuse n p
   referenceBy n p (some r) = pure r
 
@@ -74,7 +74,7 @@ module _ {S : Type 0} where
     ps ← parseProps
     pure (record { id = n; props = ps })
 
-  abbrev pub tokenMemberBy : (at string : Option (List ℕ)) → Parser S (TokenMember S)
+  unfoldable pub tokenMemberBy : (at string : Option (List ℕ)) → Parser S (TokenMember S)
   tokenMemberBy at (some t) = parseLiteral t >>= λ x. pure (TokenMember.literal x)
   tokenMemberBy at none =
       if says "precedence" at then parseTokenPrecedence >>= (λ x. pure (TokenMember.precedence x))
@@ -181,7 +181,7 @@ module _ {S : Type 0} where
   declares m = m >>= λ d. pure (declaration d)
 
   -- after `@external`
-  abbrev pub externalBy : S → Option (List ℕ) → Parser S (Member S)
+  unfoldable pub externalBy : S → Option (List ℕ) → Parser S (Member S)
   externalBy p t =
       if says "tokens" t then next >> declares (parseExternalTokens p)
       else if says "prop" t then next >> (parseExternalProp p >>= λ x. pure (externalProp x))
@@ -249,7 +249,7 @@ module _ {S : Type 0} where
   -- ------------------------------------------------------------------ the top level
 
   -- after `@top`
-  abbrev pub topBy : Option (List ℕ) → Parser S (Declaration S)
+  unfoldable pub topBy : Option (List ℕ) → Parser S (Declaration S)
   topBy none = refuseHere topWithoutName
   topBy (some t) = parseRule >>= λ r. pure (Declaration.topRule r)
 
@@ -267,7 +267,7 @@ module _ {S : Type 0} where
       else if spells "skip" t then next >> declares (parseSkipDeclaration p before)
       else unexpected
 
-  abbrev pub declarationBy : S → List (Member S) → Option (List ℕ) → Parser S (Member S)
+  unfoldable pub declarationBy : S → List (Member S) → Option (List ℕ) → Parser S (Member S)
   declarationBy p before (some t) = parseDirective p before t
   declarationBy p before none = parseRule >>= λ r. pure (declaration (Declaration.rule r))
 
@@ -309,15 +309,17 @@ module _ {S : Type 0} where
   -- the whole: declarations up to the end, at which a missing `@top` is refused
   unfoldable pub parseGrammar : Parser S (GrammarDeclaration S)
   unfolding
-      same concat lastOf picked decodeString expressions ofKind groups hasKind levels repeats
-      _>>=_ P.startOf P.kindOf next eat eatName eatAt expect expectName expectString parseIdentifier size turns loop untilStep
-      parsePart propNamed parseProp parseProps parseSetExpression parseRepeat repeated slots firstEmptyArm parseBracedExpression parseRuleNamed
-      parseInlineRuleExpression parseSpecializeExpression parseParenthesizedExpression parseArguments parseNamed parseExpressionInner
-      parseExpressionSuffix parseItem parseExpressionSequence parseArm parseExpressionChoice choiceAt
-      parseRule parseTokenReference parseTokenPrecedence parseTokenConflict parseLiteral parseNamedNode parseTokenMember parseTokens
-      parseLocalMember parseLocalTokens parseSource parseExternalMember parseExternalTokenSet parseExternalTokens parseExternalSpecializer
-      parseExternalPropSource parseExternalProp parseExternalDeclaration parsePrecKind parsePrecItem parsePrecedence parseContextDeclaration
-      parseSkipMember parseSkipDeclaration parseDirective parseDeclaration hasTop
+      same concat lastOf kept picked decodeString expressions groups hasKind levels repeats andThen _>>=_ pure refuse choose P.startOf
+      here refuseHere P.kindOf kind arrive next eatIf eat eatName eatAt must expect expectName taken expectString parseIdentifier size
+      turns loop separate untilStep partBy parsePart propNamed propBy parseProp parseProps classBy stdClassBy setBy parseSetExpression
+      literalOf referenceOf contentBy inlineBy stacked repeatBy parseRepeat repeated slots sequenceOf isEmptyArm firstEmptyArm choiceBy
+      choiceOf parseBracedExpression parseRuleNamed parseInlineRuleExpression parseSpecializeExpression parseParenthesizedExpression
+      parseArguments parseNamed innerBy parseExpressionInner parseExpressionSuffix itemBy parseItem parseExpressionSequence parseArm
+      parseExpressionChoice choiceAt parseRule referenceBy parseTokenReference parseTokenPrecedence parseTokenConflict parseLiteral
+      parseNamedNode tokenMemberBy parseTokenMember parseTokens parseLocalMember parseLocalTokens parseSource parseExternalMember
+      parseExternalTokenSet parseExternalTokens parseExternalSpecializer parseExternalPropSource parseExternalProp externalBy
+      parseExternalDeclaration parsePrecKind parsePrecItem parsePrecedence parseContextDeclaration parseSkipMember parseSkipDeclaration
+      topBy parseDirective declarationBy parseDeclaration hasTop
   parseGrammar = do
     arrive
     p ← here

@@ -40,7 +40,7 @@ module _ {S : Type 0} where
   -- ------------------------------------------------------------------ props
 
   -- a string or a name, a dot, or `{name}`
-  abbrev pub partBy : S → Option Kind → Parser S (Option (PropPart S))
+  unfoldable pub partBy : S → Option Kind → Parser S (Option (PropPart S))
   partBy p (some (Kind.string t)) = next >> pure (some (PropPart.value p (decodeString t)))
   partBy p (some (Kind.name t)) = next >> pure (some (PropPart.value p t))
   partBy p (some (Kind.mark c)) =
@@ -70,7 +70,7 @@ module _ {S : Type 0} where
     parts ← choose equals (loop parsePart) (pure [])
     pure (record { start = p; at = at; name = t; value = parts })
 
-  abbrev pub propBy : Option (List ℕ) → Option (List ℕ) → Parser S (Prop S)
+  unfoldable pub propBy : Option (List ℕ) → Option (List ℕ) → Parser S (Prop S)
   propBy (some t) name = propNamed true t
   propBy none (some t) = propNamed false t
   propBy none none = unexpected
@@ -86,18 +86,18 @@ module _ {S : Type 0} where
 
   -- ------------------------------------------------------------------ parts of expressions
 
-  abbrev pub classBy : S → Option CharClass → Parser S (Expression S)
+  unfoldable pub classBy : S → Option CharClass → Parser S (Expression S)
   classBy p none = unexpected
   classBy p (some c) = next >> pure (Expression.class p c)
 
   -- after `std.`, with or without an `@`
-  abbrev pub stdClassBy : S → Option (List ℕ) → Option (List ℕ) → Parser S (Expression S)
+  unfoldable pub stdClassBy : S → Option (List ℕ) → Option (List ℕ) → Parser S (Expression S)
   stdClassBy p (some t) name = classBy p (fromName t)
   stdClassBy p none (some t) = classBy p (fromName t)
   stdClassBy p none none = unexpected
 
   -- spans that are refused are so before the token after the set is read: `parse_set_expression`
-  abbrev pub setBy : S → Bool → List Span → Option ℕ → Parser S (Expression S)
+  unfoldable pub setBy : S → Bool → List Span → Option ℕ → Parser S (Expression S)
   setBy p inverted ss none = next >> pure (Expression.set p inverted (sorted ss))
   setBy p inverted ss (some n) = refuse n p
 
@@ -105,12 +105,12 @@ module _ {S : Type 0} where
   parseSetExpression p inverted body = setBy p inverted (spans body) (fault (spans body))
 
   -- an empty literal is explicitly empty: `parse_literal_expression`
-  abbrev pub literalOf : S → List ℕ → Expression S
+  unfoldable pub literalOf : S → List ℕ → Expression S
   literalOf p [] = Expression.empty p
   literalOf p (c ∷ cs) = Expression.literal p (c ∷ cs)
 
   -- a name or a literal as a reference
-  abbrev pub referenceOf : Expression S → Option (TokenReference S)
+  unfoldable pub referenceOf : Expression S → Option (TokenReference S)
   referenceOf (Expression.name p t es) = some (TokenReference.name p t es)
   referenceOf (Expression.literal p t) = some (TokenReference.literal p t)
   referenceOf (Expression.special p k ps e f) = none
@@ -124,20 +124,20 @@ module _ {S : Type 0} where
   referenceOf (Expression.class p c) = none
 
   -- the content of a specialize at p that has one part: that part, which must be a literal
-  abbrev pub contentBy : S → Option (TokenReference S) → Parser S (Expression S)
+  unfoldable pub contentBy : S → Option (TokenReference S) → Parser S (Expression S)
   contentBy p none = refuse onePart p
   contentBy p (some (TokenReference.name q t es)) = refuse onePart p
   contentBy p (some (TokenReference.literal q t)) = pure (Expression.literal q t)
 
   -- an inline rule at p has no parameters
-  abbrev pub inlineBy : S → RuleDeclaration S → List (Identifier S) → Parser S (Expression S)
+  unfoldable pub inlineBy : S → RuleDeclaration S → List (Identifier S) → Parser S (Expression S)
   inlineBy p r [] = pure (Expression.inline p (r .id .name) (r .props) (r .expression))
   inlineBy p r (x ∷ xs) = refuse inlineParameters p
 
   -- ------------------------------------------------------------------ repeats
 
   -- how many repeats stand directly one over another
-  abbrev pub stacked : Expression S → ℕ
+  unfoldable pub stacked : Expression S → ℕ
   stacked (Expression.repeat p k e) = suc (stacked e)
   stacked (Expression.name p t es) = 0
   stacked (Expression.special p k ps e f) = 0
@@ -151,7 +151,7 @@ module _ {S : Type 0} where
   stacked (Expression.class p c) = 0
 
   -- one more repeat, unless the stack is full
-  abbrev pub repeatBy : Option RepeatKind → (full : Bool) → Parser S (Option RepeatKind)
+  unfoldable pub repeatBy : Option RepeatKind → (full : Bool) → Parser S (Option RepeatKind)
   repeatBy none full = pure none
   repeatBy (some r) true = refuseHere tooDeep
   repeatBy (some r) false = next >> pure (some r)
@@ -174,7 +174,7 @@ module _ {S : Type 0} where
   slots ms (expression e ∷ l) = slot ms e (slots [] l)
 
   -- one expression with no markers is no sequence
-  abbrev pub sequenceOf : S → Slots S → Expression S
+  unfoldable pub sequenceOf : S → Slots S → Expression S
   sequenceOf p (slot [] e (last [])) = e
   sequenceOf p (slot [] e (last (m ∷ ms))) = Expression.sequence p (slot [] e (last (m ∷ ms)))
   sequenceOf p (slot [] e (slot ms f s)) = Expression.sequence p (slot [] e (slot ms f s))
@@ -184,7 +184,7 @@ module _ {S : Type 0} where
   -- ------------------------------------------------------------------ choices
 
   -- an arm that is empty, but not explicitly, or has only markers
-  abbrev pub isEmptyArm : Expression S → Bool
+  unfoldable pub isEmptyArm : Expression S → Bool
   isEmptyArm (Expression.sequence p (last ms)) = true
   isEmptyArm (Expression.sequence p (slot ms e s)) = false
   isEmptyArm (Expression.name p t es) = false
@@ -203,12 +203,12 @@ module _ {S : Type 0} where
   firstEmptyArm [] = none
   firstEmptyArm (e ∷ es) = if isEmptyArm e then some (startOf e) else firstEmptyArm es
 
-  abbrev pub choiceBy : S → List (Expression S) → Option S → Parser S (Expression S)
+  unfoldable pub choiceBy : S → List (Expression S) → Option S → Parser S (Expression S)
   choiceBy p es none = pure (Expression.choice p (expressions es))
   choiceBy p es (some q) = refuse emptyArm q
 
   -- with no second arm there is no choice
-  abbrev pub choiceOf : S → Expression S → List (Expression S) → Parser S (Expression S)
+  unfoldable pub choiceOf : S → Expression S → List (Expression S) → Parser S (Expression S)
   choiceOf p e [] = pure e
   choiceOf p e (f ∷ fs) = choiceBy p (e ∷ f ∷ fs) (firstEmptyArm (e ∷ f ∷ fs))
 
@@ -274,7 +274,7 @@ module _ {S : Type 0} where
           es ← parseArguments
           pure (Expression.name p t (expressions es)))
 
-    abbrev pub innerBy : S → Option Kind → Parser S (Expression S)
+    unfoldable pub innerBy : S → Option Kind → Parser S (Expression S)
     innerBy p (some (Kind.mark c)) =
         if is "(" c then next >> parseParenthesizedExpression p
         else if is "[" c then parseInlineRuleExpression p (letters "_anon")
@@ -307,7 +307,7 @@ module _ {S : Type 0} where
       pure (repeated p rs e)
 
     -- a marker, the sequence's end, or an expression
-    abbrev pub itemBy : S → Option Kind → Option ConflictMarkerKind → Parser S (Option (Item S))
+    unfoldable pub itemBy : S → Option Kind → Option ConflictMarkerKind → Parser S (Option (Item S))
     itemBy p k (some m) = do
       next
       n ← parseIdentifier

@@ -24,7 +24,7 @@ Parser S A = Tokens S → Answer S A
 module _ {S : Type 0} where
   infixl 20 _>>=_
   infixl 20 _>>_
-  abbrev pub andThen : {A B : Type 0} → Answer S A → (A → Parser S B) → Answer S B
+  unfoldable pub andThen : {A B : Type 0} → Answer S A → (A → Parser S B) → Answer S B
   andThen (read a ts) f = f a ts
   andThen (refused n p) f = refused n p
 
@@ -35,14 +35,14 @@ module _ {S : Type 0} where
   abbrev pub _>>_ : {A B : Type 0} → Parser S A → Parser S B → Parser S B
   m >> n = m >>= λ _. n
 
-  abbrev pub pure : {A : Type 0} → A → Parser S A
+  unfoldable pub pure : {A : Type 0} → A → Parser S A
   pure a ts = read a ts
 
-  abbrev pub refuse : {A : Type 0} → ℕ → S → Parser S A
+  unfoldable pub refuse : {A : Type 0} → ℕ → S → Parser S A
   refuse n p ts = refused n p
 
   -- by a test
-  abbrev pub choose : {A : Type 0} → Bool → Parser S A → Parser S A → Parser S A
+  unfoldable pub choose : {A : Type 0} → Bool → Parser S A → Parser S A → Parser S A
   choose true m n = m
   choose false m n = n
 
@@ -54,10 +54,10 @@ module _ {S : Type 0} where
   startOf (bad n p) = p
 
   -- its start
-  abbrev pub here : Parser S S
+  unfoldable pub here : Parser S S
   here ts = read (startOf ts) ts
 
-  abbrev pub refuseHere : {A : Type 0} → ℕ → Parser S A
+  unfoldable pub refuseHere : {A : Type 0} → ℕ → Parser S A
   refuseHere n ts = refused n (startOf ts)
 
   abbrev pub unexpected : {A : Type 0} → Parser S A
@@ -69,11 +69,11 @@ module _ {S : Type 0} where
   kindOf (eof p) = none
   kindOf (bad n p) = none
 
-  abbrev pub kind : Parser S (Option Kind)
+  unfoldable pub kind : Parser S (Option Kind)
   kind ts = read (kindOf ts) ts
 
   -- a token is arrived at
-  abbrev pub arrive : Parser S (Unit {0})
+  unfoldable pub arrive : Parser S (Unit {0})
   arrive (token k p ts) = read tt (token k p ts)
   arrive (eof p) = read tt (eof p)
   arrive (bad n p) = refused n p
@@ -137,7 +137,7 @@ module _ {S : Type 0} where
   -- ------------------------------------------------------------------ taking tokens
 
   -- the token is taken if the test says so
-  abbrev pub eatIf : Bool → Parser S Bool
+  unfoldable pub eatIf : Bool → Parser S Bool
   eatIf true = next >> pure true
   eatIf false = pure false
 
@@ -151,7 +151,7 @@ module _ {S : Type 0} where
   unfoldable pub eatAt : String → Parser S Bool
   eatAt s = kind >>= λ k. eatIf (says s (atIn k))
 
-  abbrev pub must : Bool → Parser S (Unit {0})
+  unfoldable pub must : Bool → Parser S (Unit {0})
   must true = pure tt
   must false = unexpected
 
@@ -163,7 +163,7 @@ module _ {S : Type 0} where
   expectName s = eatName s >>= must
 
   -- takes the token that holds the text
-  abbrev pub taken : Option (List ℕ) → Parser S (List ℕ)
+  unfoldable pub taken : Option (List ℕ) → Parser S (List ℕ)
   taken none = unexpected
   taken (some t) = next >> pure t
 
@@ -199,7 +199,7 @@ module _ {S : Type 0} where
     loop step ts = turns (suc (suc (size ts))) step [] ts
 
     -- what stands between items stands before each but the first
-    abbrev pub separate : Parser S (Unit {0}) → List A → Parser S (Unit {0})
+    unfoldable pub separate : Parser S (Unit {0}) → List A → Parser S (Unit {0})
     separate between [] = pure tt
     separate between (x ∷ xs) = between
 

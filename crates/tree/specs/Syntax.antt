@@ -7,6 +7,7 @@ use mathlib.Core.List.{List, [], _∷_, _++_}
 use mathlib.Core.Option.{Option, none, some}
 use mathlib.Core.Path.{_≡_}
 use lib.Dec.{eqb}
+use Rattle.basics.specs.Basics.{kept}
 use Rattle.characters.specs.Spans.{Span}
 
 infixr 67 _∷ᴱ_
@@ -197,9 +198,8 @@ module _ {S : Type 0} where
   declarationKind (scopedSkip s) = 23
 
   -- those of a kind, in their order
-  unfoldable pub ofKind : ℕ → List (Declaration S) → List (Declaration S)
-  ofKind k [] = []
-  ofKind k (d ∷ ds) = elim (eqb (declarationKind d) k) [ true ↦ d ∷ ofKind k ds | false ↦ ofKind k ds ]
+  abbrev pub ofKind : ℕ → List (Declaration S) → List (Declaration S)
+  ofKind k ds = kept (λ d. eqb (declarationKind d) k) ds
 
   -- the groups of these kinds, one after another
   unfoldable pub groups : List ℕ → List (Declaration S) → List (Declaration S)

@@ -1,0 +1,1 @@
+// Theorems about the definitions; there is no code here.
