@@ -296,7 +296,7 @@ module _ {S : Type 0} where
   hasTop (d ∷ ds) = isTop d || hasTop ds
 
   -- the tree of all that was read: declarations in groups, the last list of dialects
-  abbrev pub grammarOf : S → List (Member S) → GrammarDeclaration S
+  unfoldable pub grammarOf : S → List (Member S) → GrammarDeclaration S
   grammarOf p ms =
       record {
         start = p;
@@ -307,6 +307,14 @@ module _ {S : Type 0} where
       }
 
   -- the whole: declarations up to the end, at which a missing `@top` is refused
+  unfoldable pub parse : Parser S (GrammarDeclaration S)
+  parse = do
+    arrive
+    p ← here
+    ms ← until (kind >>= λ k. pure (isEnd k)) nothing parseDeclaration
+    choose (hasTop (picked declared ms)) (pure (grammarOf p ms)) (refuseHere noTop)
+
+  -- with all that it calls
   unfoldable pub parseGrammar : Parser S (GrammarDeclaration S)
   unfolding
       same concat lastOf kept picked decodeString expressions groups hasKind levels repeats andThen _>>=_ pure refuse choose P.startOf
@@ -319,9 +327,5 @@ module _ {S : Type 0} where
       parseNamedNode tokenMemberBy parseTokenMember parseTokens parseLocalMember parseLocalTokens parseSource parseExternalMember
       parseExternalTokenSet parseExternalTokens parseExternalSpecializer parseExternalPropSource parseExternalProp externalBy
       parseExternalDeclaration parsePrecKind parsePrecItem parsePrecedence parseContextDeclaration parseSkipMember parseSkipDeclaration
-      topBy parseDirective declarationBy parseDeclaration hasTop
-  parseGrammar = do
-    arrive
-    p ← here
-    ms ← until (kind >>= λ k. pure (isEnd k)) nothing parseDeclaration
-    choose (hasTop (picked declared ms)) (pure (grammarOf p ms)) (refuseHere noTop)
+      topBy parseDirective declarationBy parseDeclaration hasTop grammarOf parse
+  parseGrammar = parse
