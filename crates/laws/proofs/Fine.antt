@@ -1,0 +1,48 @@
+-- What the texts in tokens and trees are made of: words, and codes that UTF-8 writes.
+-- Assumes nothing.
+use Prim.Native.Nat.{ℕ}
+use mathlib.Core.Path.{_≡_, refl}
+use mathlib.Core.Bool.{Bool, true, false}
+use mathlib.Core.List.{List, [], _∷_}
+use mathlib.Core.Option.{Option, none, some}
+use Rattle.basics.specs.Basics.{every, spells}
+use Rattle.characters.specs.Classes.{isPunctuation, isWord}
+use Rattle.characters.specs.Spans.{Span}
+use Rattle.characters.specs.Utf8.{isScalar}
+use Rattle.lexer.specs.Tokens.{Kind, Tokens, token, eof, bad}
+use Rattle.lexer.specs.Escapes.{decodeString}
+use Rattle.lexer.specs.Sets.{spans, fault, sorted}
+use Rattle.writer.specs.Spelling.{spansText}
+
+-- without starts
+abbrev pub U : Type 0
+U = Unit {0}
+
+-- a name: one character at least, all of them characters of names, and codes that UTF-8 writes
+pub record Word (t : List ℕ) : Type 0 where
+  pub some : (t ≡ [] → ⊥)
+  pub word : every isWord t ≡ true
+  pub scalar : every isScalar t ≡ true
+
+-- a text that UTF-8 writes
+pub record Scalars (t : List ℕ) : Type 0 where
+  pub scalar : every isScalar t ≡ true
+
+-- spans that, written out, are read as they are
+pub record ReadBack (ss : List Span) : Type 0 where
+  pub back : spans (spansText ss) ≡ ss
+  pub sound : fault ss ≡ none
+  pub ordered : sorted ss ≡ ss
+
+-- a token's texts are such
+pub data FineKind : Kind → Type 0 where
+  fine-name : {t : List ℕ} → Word t → FineKind (Kind.name t)
+  fine-at : {t : List ℕ} → Word t → FineKind (Kind.at t)
+  fine-string : {t : List ℕ} → Scalars (decodeString t) → FineKind (Kind.string t)
+  fine-set : {i : Bool} {t : List ℕ} → (fault (spans t) ≡ none → ReadBack (sorted (spans t))) → FineKind (Kind.set i t)
+  fine-mark : {c : ℕ} → FineKind (Kind.mark c)
+
+pub data Fine {S : Type 0} : Tokens S → Type 0 where
+  fine-token : {k : Kind} {p : S} {ts : Tokens S} → FineKind k → Fine ts → Fine (token k p ts)
+  fine-eof : {p : S} → Fine (eof p)
+  fine-bad : {n : ℕ} {p : S} → Fine (bad n p)
