@@ -6,3 +6,4 @@ pub mod Fine
 pub mod Readable
 pub mod Meets
 pub mod MeetsExpressions
+pub mod ReadBack
