@@ -3,7 +3,7 @@
 use mathlib.Core.Path.{_≡_, refl}
 use mathlib.Core.Bool.{Bool, true, false, _&&_, _||_, and-false}
 use Prim.Native.Nat.{ℕ, _≤_, _<_}
-use lib.Dec.{leb}
+use lib.Dec.{T, leb}
 use borrow.Author.Tests.{leb-true, le-leb, lt-leb}
 use Rattle.basics.specs.Basics.{within}
 
@@ -28,3 +28,12 @@ module _ (lo hi x : ℕ) where
 
   pub within-hi : hi < x → within lo hi x ≡ false
   within-hi h = simp (lt-leb x hi h, and-false)
+
+-- a test as a type
+pub and-left : (a b : Bool) → T (a && b) → T a
+and-left true b t = tt
+and-left false b t = t
+
+pub and-right : (a b : Bool) → T (a && b) → T b
+and-right true b t = t
+and-right false b t = absurd t

@@ -125,28 +125,28 @@ module _ (a b : ℕ) where
   not-F1 : 0xF4 ≤ a → row 0xF1 0xF3 0x80 0xBF a b ≡ false
   not-F1 h = row-hi 0xF1 0xF3 0x80 0xBF a b h
 
-  lead-1 : a < 0x80 → leadLen a b ≡ 1
+  pub lead-1 : a < 0x80 → leadLen a b ≡ 1
   unfolding leadLen
   lead-1 h = rw (within-yes 0x00 0x7F a (omega arith) (omega arith))
 
-  lead-2 : 0xC2 ≤ a → a ≤ 0xDF → 0x80 ≤ b → b ≤ 0xBF → leadLen a b ≡ 2
+  pub lead-2 : 0xC2 ≤ a → a ≤ 0xDF → 0x80 ≤ b → b ≤ 0xBF → leadLen a b ≡ 2
   unfolding leadLen
   lead-2 h h′ g g′ = rw (not-1 (omega arith), row-yes 0xC2 0xDF 0x80 0xBF a b h h′ g g′)
 
-  lead-E0 : 0xE0 ≤ a → a ≤ 0xE0 → 0xA0 ≤ b → b ≤ 0xBF → leadLen a b ≡ 3
+  pub lead-E0 : 0xE0 ≤ a → a ≤ 0xE0 → 0xA0 ≤ b → b ≤ 0xBF → leadLen a b ≡ 3
   unfolding leadLen
   lead-E0 h h′ g g′ = rw (not-1 (omega arith), not-2 (omega arith), row-yes 0xE0 0xE0 0xA0 0xBF a b h h′ g g′)
 
-  lead-E1 : 0xE1 ≤ a → a ≤ 0xEC → 0x80 ≤ b → b ≤ 0xBF → leadLen a b ≡ 3
+  pub lead-E1 : 0xE1 ≤ a → a ≤ 0xEC → 0x80 ≤ b → b ≤ 0xBF → leadLen a b ≡ 3
   unfolding leadLen
   lead-E1 h h′ g g′ = rw (not-1 (omega arith), not-2 (omega arith), not-E0 (omega arith), row-yes 0xE1 0xEC 0x80 0xBF a b h h′ g g′)
 
-  lead-ED : 0xED ≤ a → a ≤ 0xED → 0x80 ≤ b → b ≤ 0x9F → leadLen a b ≡ 3
+  pub lead-ED : 0xED ≤ a → a ≤ 0xED → 0x80 ≤ b → b ≤ 0x9F → leadLen a b ≡ 3
   unfolding leadLen
   lead-ED h h′ g g′ =
       rw (not-1 (omega arith), not-2 (omega arith), not-E0 (omega arith), not-E1 (omega arith), row-yes 0xED 0xED 0x80 0x9F a b h h′ g g′)
 
-  lead-EE : 0xEE ≤ a → a ≤ 0xEF → 0x80 ≤ b → b ≤ 0xBF → leadLen a b ≡ 3
+  pub lead-EE : 0xEE ≤ a → a ≤ 0xEF → 0x80 ≤ b → b ≤ 0xBF → leadLen a b ≡ 3
   unfolding leadLen
   lead-EE h h′ g g′ =
       rw (
@@ -158,7 +158,7 @@ module _ (a b : ℕ) where
         row-yes 0xEE 0xEF 0x80 0xBF a b h h′ g g′,
       )
 
-  lead-F0 : 0xF0 ≤ a → a ≤ 0xF0 → 0x90 ≤ b → b ≤ 0xBF → leadLen a b ≡ 4
+  pub lead-F0 : 0xF0 ≤ a → a ≤ 0xF0 → 0x90 ≤ b → b ≤ 0xBF → leadLen a b ≡ 4
   unfolding leadLen
   lead-F0 h h′ g g′ =
       rw (
@@ -171,7 +171,7 @@ module _ (a b : ℕ) where
         row-yes 0xF0 0xF0 0x90 0xBF a b h h′ g g′,
       )
 
-  lead-F1 : 0xF1 ≤ a → a ≤ 0xF3 → 0x80 ≤ b → b ≤ 0xBF → leadLen a b ≡ 4
+  pub lead-F1 : 0xF1 ≤ a → a ≤ 0xF3 → 0x80 ≤ b → b ≤ 0xBF → leadLen a b ≡ 4
   unfolding leadLen
   lead-F1 h h′ g g′ =
       rw (
@@ -185,7 +185,7 @@ module _ (a b : ℕ) where
         row-yes 0xF1 0xF3 0x80 0xBF a b h h′ g g′,
       )
 
-  lead-F4 : 0xF4 ≤ a → a ≤ 0xF4 → 0x80 ≤ b → b ≤ 0x8F → leadLen a b ≡ 4
+  pub lead-F4 : 0xF4 ≤ a → a ≤ 0xF4 → 0x80 ≤ b → b ≤ 0x8F → leadLen a b ≡ 4
   unfolding leadLen
   lead-F4 h h′ g g′ =
       rw (
@@ -243,7 +243,7 @@ module _ (c : ℕ) where
   trail : (r : ℕ) → within 0x80 0xBF (0x80 + r % 64) ≡ true
   trail r = within-yes 0x80 0xBF (0x80 + r % 64) (omega arith) (omega arith)
 
-  as-1 : (rest : List ℕ) → c < 0x80 → firstChar (c ∷ rest) ≡ Scalar c 1
+  pub as-1 : (rest : List ℕ) → c < 0x80 → firstChar (c ∷ rest) ≡ Scalar c 1
   unfolding firstChar charOf
   as-1 rest h = rw (lead-1 c (getD rest 0 0) h)
 

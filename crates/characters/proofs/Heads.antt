@@ -23,7 +23,7 @@ row-true alo ahi blo bhi a b e =
 
 -- what the rows of table 3-7 say of the first two bytes: together, as one number, they lie between the first and the last pair of the
 -- rows of their length. Between the rows of three bytes is the gap of the surrogates
-data Lead (a b : ℕ) : ℕ → Type 0 where
+pub data Lead (a b : ℕ) : ℕ → Type 0 where
   one : a ≤ 0x7F → Lead a b 1
   two : 0xC2 * 64 + 0x80 ≤ a * 64 + b → a * 64 + b ≤ 0xDF * 64 + 0xBF → 0x80 ≤ b → b ≤ 0xBF → Lead a b 2
   three-low : 0xE0 * 64 + 0xA0 ≤ a * 64 + b → a * 64 + b ≤ 0xED * 64 + 0x9F → 0x80 ≤ b → b ≤ 0xBF → Lead a b 3
@@ -31,7 +31,7 @@ data Lead (a b : ℕ) : ℕ → Type 0 where
   four : 0xF0 * 64 + 0x90 ≤ a * 64 + b → a * 64 + b ≤ 0xF4 * 64 + 0x8F → 0x80 ≤ b → b ≤ 0xBF → Lead a b 4
   none : Lead a b 0
 
-lead : (a b : ℕ) → Lead a b (leadLen a b)
+pub lead : (a b : ℕ) → Lead a b (leadLen a b)
 unfolding leadLen
 lead a b =
     cases (within 0x00 0x7F a) (λ e. rw e (one (within-true 0x00 0x7F a e .1)))

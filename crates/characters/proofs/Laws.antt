@@ -11,7 +11,7 @@ use Rattle.characters.specs.Utf8.{leadLen, charOf, firstChar, onChar, en
 use Rattle.characters.specs.Places.{decodeAt}
 use Rattle.characters.specs.declared.Checked.the-variants.{Good, IllAt}
 use Rattle.characters.specs.declared.Char.the-variants.{Scalar, Ill}
-use Rattle.characters.proofs.Encode.{width-some}
+use Rattle.characters.proofs.Encode.{width-some, as-1}
 use Rattle.characters.proofs.Heads.{Stands, stands}
 
 pub first-fits : (l : List ℕ) {c n : ℕ} → firstChar l ≡ Scalar c n → (1 ≤ n) × (n ≤ length l)
@@ -20,13 +20,6 @@ first-fits l {c} {n} e =
     let w = s .wide in
     let z = ap length (s .bytes) ∙ length-append (encode c) (drop n l) in
     let k = width-some c in (omega arith, omega arith)
-
--- the bytes of the first character
-pub first-bytes : (l : List ℕ) → 1 ≤ length l
-    → firstChar l ≡ charOf (leadLen (getD l 0 0) (getD l 1 0)) (getD l 0 0) (getD l 1 0) (getD l 2 0) (getD l 3 0)
-unfolding firstChar
-first-bytes [] h = absurd (not-suc-le-zero h)
-first-bytes (a ∷ l) h = refl
 
 -- a character at a place lies within the text
 pub scalar-fits : (s : List ℕ) (at : ℕ) {c n : ℕ} → decodeAt s at ≡ Scalar c n → (1 ≤ n) × (at + n ≤ length s)
@@ -74,3 +67,15 @@ module _ (s : List ℕ) (at : ℕ) where
   pub check-end : length s ≤ at → checkFrom 0 at (drop at s) ≡ Good
   unfolding checkFrom
   check-end l = simp (drop-of-length-le s l)
+
+-- an ASCII byte is a character by itself
+pub ascii-at : (s : List ℕ) (at : ℕ) → at < length s → getD s at 0 < 0x80 → decodeAt s at ≡ Scalar (getD s at 0) 1
+unfolding decodeAt
+ascii-at s at h g = rw (drop-cons s at 0) (as-1 (getD s at 0) (drop (suc at) s) g)
+
+-- a character by the bytes from a place on
+pub bytes-at : (s : List ℕ) (at : ℕ) → at < length s
+    → decodeAt s at
+    ≡ charOf (leadLen (getD s at 0) (getD (drop at s) 1 0)) (getD s at 0) (getD (drop at s) 1 0) (getD (drop at s) 2 0) (getD (drop at s) 3 0)
+unfolding decodeAt firstChar
+bytes-at s at h = rw (drop-cons s at 0)

@@ -1,62 +1,84 @@
 -- Bytes written where they fit.
 -- Assumes nothing.
-use mathlib.Core.Path.{_≡_, refl, sym, _∙_, ap, ap₂, subst}
-use mathlib.Core.Bool.{Bool, true, false}
+use mathlib.Core.Path.{_≡_, refl, sym, _∙_, ap}
+use mathlib.Core.Bool.{true, false}
 use mathlib.Core.List.{List, [], _∷_, _++_, append-assoc, append-nil}
-use Prim.Native.Nat.{ℕ, zero, suc, _+_, _*_, _/_, _%_, _-_, _≤_, _<_}
+use Prim.Native.Nat.{ℕ, _+_, _-_, _≤_, _<_}
 use native.Mathlib.Omega.{arith}
 use native.Mathlib.Decide.{decLe}
-use lib.Dec.{ltb, leb}
-use lib.ListN.{take-append-drop, length, take, drop, set, length-set, length-append, length-drop}
-use lib.Seq.{sets, sets-eq, length-take-le, take-at, drop-at, drop-drop}
-use borrow.Author.Tests.{lt-ltb, le-ltb, le-leb, lt-leb, leb-true}
+use lib.Dec.{leb}
+use lib.ListN.{take-append-drop, length, take, drop, length-append, length-drop, drop-of-length-le}
+use lib.Seq.{sets, sets-eq, length-take-le, take-all, take-at, drop-at, drop-drop}
+use borrow.Rule.Slice.PartMut.{putMid}
+use borrow.Author.Tests.{le-leb, lt-leb}
 use Rattle.basics.specs.Basics.{if_then_else_}
-use Rattle.characters.specs.Utf8.{encode, encodeAll, width}
-use Rattle.characters.specs.Promise.{written, writtenAll}
+use Rattle.characters.specs.Utf8.{isScalar, encode, encodeAll, width}
+use Rattle.characters.specs.Promise.{scalarBytes, written, writtenAll}
+use Rattle.characters.proofs.Encode.{IsScalar}
 
 module _ (out : List ℕ) (at : ℕ) (bs : List ℕ) where
-  pub written-not : leb (at + length bs) (length out) ≡ false → written out at bs ≡ out
+  pub written-not : length out < at + length bs → written out at bs ≡ out
   unfolding written
-  written-not e = rw e
+  written-not h = rw (lt-leb (at + length bs) (length out) h)
 
-  pub written-in : leb (at + length bs) (length out) ≡ true → written out at bs ≡ take at out ++ bs ++ drop (at + length bs) out
+  pub written-in : at + length bs ≤ length out → written out at bs ≡ take at out ++ bs ++ drop (at + length bs) out
   unfolding written
-  written-in e = rw e
-
-  sets-written : leb (at + length bs) (length out) ≡ true → sets out at bs ≡ written out at bs
-  sets-written e = sets-eq bs out at (leb-true _ _ e) ∙ sym (written-in e)
+  written-in h = rw (le-leb (at + length bs) (length out) h)
 
   pub length-written : length (written out at bs) ≡ length out
-  length-written = by (leb (at + length bs) (length out)) refl
+  length-written =
+      elim (decLe (at + length bs) (length out)) [
+        | yes h ↦
+            let l : length (take at out) ≡ at = length-take-le at out (omega arith) in
+            ap length (written-in h) ∙ simp (length-append, length-drop, l) (omega arith)
+        | no h ↦ ap length (written-not (omega arith))
+      ]
+
+-- what is written to the start of a part of the whole
+module _ (bs : List ℕ) where
+  pub written-empty : written [] 0 bs ≡ []
+  written-empty = nil (written [] 0 bs) (length-written [] 0 bs)
     where
-      by : (b : Bool) → leb (at + length bs) (length out) ≡ b → length (written out at bs) ≡ length out
-      by false e = ap length (written-not e)
-      by true e =
-          let h : at + length bs ≤ length out = leb-true _ _ e in
-          let l : length (take at out) ≡ at = length-take-le at out (omega arith) in
-          ap length (written-in e) ∙ simp (length-append, length-drop, l) (omega arith)
+      nil : (l : List ℕ) → length l ≡ 0 → l ≡ []
+      nil [] e = refl
+      nil (x ∷ l) e = absurd (omega arith)
 
-module _ (out : List ℕ) (at a : ℕ) where
-  pub put-1 : leb (at + 1) (length out) ≡ true → set out at a ≡ written out at (a ∷ [])
-  put-1 e = sets-written out at (a ∷ []) e
+  pub written-rest : (out : List ℕ) (at : ℕ) → at ≤ length out
+      → putMid at (length out - at) out (written (take (length out - at) (drop at out)) 0 bs) ≡ written out at bs
+  written-rest out at h =
+      let k = length out - at in
+      let ld : length (drop at out) ≡ k = length-drop at out in
+      let t : take k (drop at out) ≡ drop at out = take-all k (drop at out) (omega arith) in
+      let d : drop k (drop at out) ≡ [] = drop-of-length-le (drop at out) {i = k} (omega arith) in
+      rw (t, d, append-nil) (
+      elim (decLe (at + length bs) (length out)) [
+        | yes i ↦
+            let z : 0 + length bs ≡ length bs = omega arith in
+            rw (written-in (drop at out) 0 bs (omega arith), written-in out at bs i, z) (
+            ap (λ (x : List ℕ). take at out ++ (bs ++ x)) (drop-drop (length bs) at out) ∙ sym (append-assoc (take at out) bs (drop (at + length bs) out)))
+        | no i ↦ rw (written-not (drop at out) 0 bs (omega arith), written-not out at bs (omega arith)) (take-append-drop at out)
+      ])
 
-  pub put-2 : (b : ℕ) → leb (at + 2) (length out) ≡ true → set (set out at a) (at + 1) b ≡ written out at (a ∷ b ∷ [])
-  put-2 b e = let q : at + 1 ≡ suc at = omega arith in rw q (sets-written out at (a ∷ b ∷ []) e)
+-- ------------------------------------------------------------------ the bytes of a scalar
 
-  pub put-3 : (b c : ℕ) → leb (at + 3) (length out) ≡ true → set (set (set out at a) (at + 1) b) (at + 2) c ≡ written out at (a ∷ b ∷ c ∷ [])
-  put-3 b c e =
-      let q : at + 1 ≡ suc at = omega arith in
-      let p : at + 2 ≡ suc (suc at) = omega arith in rw (q, p) (sets-written out at (a ∷ b ∷ c ∷ []) e)
+module _ (c : ℕ) where
+  pub bytes-none : isScalar c ≡ false → scalarBytes c ≡ []
+  unfolding scalarBytes
+  bytes-none e = rw e
 
-  pub put-4 : (b c d : ℕ) → leb (at + 4) (length out) ≡ true
-      → set (set (set (set out at a) (at + 1) b) (at + 2) c) (at + 3) d ≡ written out at (a ∷ b ∷ c ∷ d ∷ [])
-  put-4 b c d e =
-      let q : at + 1 ≡ suc at = omega arith in
-      let p : at + 2 ≡ suc (suc at) = omega arith in
-      let o : at + 3 ≡ suc (suc (suc at)) = omega arith in rw (q, p, o) (sets-written out at (a ∷ b ∷ c ∷ d ∷ []) e)
+  pub bytes-some : IsScalar c → scalarBytes c ≡ encode c
+  unfolding scalarBytes
+  bytes-some e = rw e
 
-pub fits-same : (at n len : ℕ) → n ≤ len → leb at (len - n) ≡ leb (at + n) len
-fits-same at n len h = elim (decLe at (len - n)) [ yes l ↦ rw (le-leb at (len - n) l, le-leb (at + n) len (omega arith)) | no l ↦ rw (lt-leb at (len - n) (omega arith), lt-leb (at + n) len (omega arith)) ]
+-- what is left of a part, and the count, where the bytes of a code fit and where they do not
+module _ (out : List ℕ) (c : ℕ) (bs : List ℕ) (e : scalarBytes c ≡ bs) where
+  pub put-out : length out < length bs → (length bs ≡ length (scalarBytes c)) × (out ≡ written out 0 (scalarBytes c))
+  put-out h = rw e (refl, sym (written-not out 0 bs (omega arith)))
+
+  pub put-in : length bs ≤ length out → (length bs ≡ length (scalarBytes c)) × (sets out 0 bs ≡ written out 0 (scalarBytes c))
+  put-in h = rw e (refl, sets-eq bs out 0 (omega arith) ∙ sym (written-in out 0 bs (omega arith)))
+
+-- ------------------------------------------------------------------ several
 
 -- where all fit, they are all there
 pub all-in : (cs : List ℕ) (out : List ℕ) (at : ℕ) → at + length (encodeAll cs) ≤ length out
@@ -68,7 +90,7 @@ all-in (c ∷ cs) out at h =
     let m = length (encodeAll cs) in
     let l = length-append (encode c) (encodeAll cs) in
     let i : at + n ≤ length out = omega arith in
-    let w = written-in out at (encode c) (le-leb _ _ i) in
+    let w = written-in out at (encode c) i in
     let a = take at out in
     let la : length a ≡ at = length-take-le at out (omega arith) in
     let o′ = a ++ encode c ++ drop (at + n) out in
