@@ -1,0 +1,7 @@
+pub mod Tokens
+pub mod Pieces
+pub mod Escaped
+pub mod Ordered
+pub mod Held
+pub mod Spans
+pub mod Faults

@@ -1,0 +1,1 @@
+// Keywords and the names of classes.
