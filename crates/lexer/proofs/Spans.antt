@@ -15,7 +15,7 @@ use Rattle.lexer.specs.Escapes.{Atom}
 use Rattle.lexer.specs.Sets.{dash, rangeEnd, written, spans}
 use Rattle.lexer.specs.Promise.{atomsAt, ReadsAtom, spansAt, rangeAnswer, RangePlaced, ReadsRange}
 use Rattle.lexer.specs.declared.escapes.Atom as A
-use Rattle.lexer.specs.declared.escapes.Atom.the-variants as V
+use Rattle.lexer.specs.declared.escapes.Atom.the-variants as Read
 use Rattle.lexer.specs.declared.sets.Range.{Range}
 use Rattle.lexer.specs.declared.sets.Range.the-variants.{One, End}
 use Rattle.lexer.proofs.Escaped.{value-on, atoms-on}
@@ -51,7 +51,7 @@ pub record Stands (s : List ℕ) (at c : ℕ) (x : Bool) (end : ℕ) : Type 0 wh
   pub small : c < 0x110000
   pub atom : atomsAt s at ≡ record { char = c; escaped = x } ∷ atomsAt s end
 
-pub atom-of : (s : List ℕ) (at : ℕ) (r : A.Atom) (c end : ℕ) (x : Bool) → ReadsAtom s at r → r ≡ V.One c x end → Stands s at c x end
+pub atom-of : (s : List ℕ) (at : ℕ) (r : A.Atom) (c end : ℕ) (x : Bool) → ReadsAtom s at r → r ≡ Read.One c x end → Stands s at c x end
 atom-of s at r c end x h e =
     let v = value-on s at r c end x h e in
     let f = v .forth in
