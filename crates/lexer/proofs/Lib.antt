@@ -5,3 +5,4 @@ pub mod Ordered
 pub mod Held
 pub mod Spans
 pub mod Faults
+pub mod Spelled

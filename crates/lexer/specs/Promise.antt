@@ -7,7 +7,7 @@ use mathlib.Core.List.{List, [], _∷_, _++_, map}
 use mathlib.Core.Option.{Option, none, some}
 use lib.Dec.{leb}
 use lib.ListN.{length, getD, take, drop}
-use Rattle.basics.specs.Basics.{if_then_else_, letters, is, among}
+use Rattle.basics.specs.Basics.{if_then_else_, letters, is, among, spells}
 use Rattle.error.specs.Causes.{unexpectedCharacter, unterminatedString, atWithoutName, unterminatedSet, reversedSpan, overlappingSpan}
 use Rattle.characters.specs.Utf8.{codes, encodeAll, width, isScalar}
 use Rattle.characters.specs.Places.{charsAt, peekAt, cut, past}
@@ -39,6 +39,8 @@ use Rattle.lexer.specs.declared.sets.Filled.{Filled}
 use Rattle.lexer.specs.declared.sets.Filled.the-variants as B
 use Rattle.lexer.specs.declared.sets.Ranges.{Ranges}
 use Rattle.lexer.specs.declared.sets.Ranges.the-variants.{Sound, Reversed, Overlapping}
+use Rattle.lexer.specs.declared.words.Class.{Class}
+use Rattle.lexer.specs.declared.words.Class.the-variants as C
 
 -- ------------------------------------------------------------------ tokens
 
@@ -263,3 +265,26 @@ storedBy (some c) ss out = out
 
 unfoldable pub stored : List Span → List ℕ → List ℕ
 stored ss out = storedBy (fault ss) ss out
+
+-- ------------------------------------------------------------------ words
+
+-- the class that a text names
+unfoldable pub classNamed : List ℕ → Class
+classNamed t =
+    if spells "asciiLetter" t then C.AsciiLetter
+    else if spells "asciiLowercase" t then C.AsciiLowercase
+    else if spells "asciiUppercase" t then C.AsciiUppercase
+    else if spells "digit" t then C.Digit
+    else if spells "whitespace" t then C.Whitespace
+    else if spells "eof" t then C.Eof
+    else C.Missing
+
+-- a class by its value
+abbrev pub classValue : Class → Option ℕ
+classValue C.AsciiLetter = some 0
+classValue C.AsciiLowercase = some 1
+classValue C.AsciiUppercase = some 2
+classValue C.Digit = some 3
+classValue C.Whitespace = some 4
+classValue C.Eof = some 5
+classValue C.Missing = none
