@@ -1,5 +1,6 @@
 pub mod Tokens
 pub mod Pieces
+pub mod Back
 pub mod Escaped
 pub mod Ordered
 pub mod Held
