@@ -3,7 +3,7 @@
 use Prim.Native.Nat.{ℕ}
 use mathlib.Core.Bool.{Bool, true, false, _&&_, _||_, not}
 use mathlib.Core.List.{List, [], _∷_}
-use lib.Dec.{eqb}
+use lib.Dec.{eqb, ltb}
 use Rattle.basics.specs.Basics.{letters, is, among, within}
 use Rattle.characters.specs.Spans.{Span, _upto_, inSpans}
 use Rattle.characters.specs.Alphabetic.{isAlphabetic}
@@ -27,6 +27,15 @@ isLineTerminator c = among (0x0A ∷ 0x0D ∷ 0x2028 ∷ 0x2029 ∷ []) c
 
 unfoldable pub isPunctuation : ℕ → Bool
 isPunctuation c = among (letters "[]()!~+*?{}<>.,|:$=") c
+
+unfoldable pub isAscii : ℕ → Bool
+isAscii c = ltb c 0x80
+
+unfoldable pub isAsciiDigit : ℕ → Bool
+isAsciiDigit c = within 0x30 0x39 c
+
+unfoldable pub isAsciiHexdigit : ℕ → Bool
+isAsciiHexdigit c = within 0x30 0x39 c || within 0x41 0x46 c || within 0x61 0x66 c
 
 -- the characters of names: `_`, `-`, an ASCII digit or an Alphabetic code
 unfoldable pub isWord : ℕ → Bool

@@ -3,3 +3,4 @@ pub mod Places
 pub mod Spans
 pub mod Alphabetic
 pub mod Classes
+pub mod Promise

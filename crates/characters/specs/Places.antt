@@ -1,5 +1,6 @@
 -- Places in the bytes of a text, and the characters that stand there.
 -- Assumes nothing.
+use mathlib.Core.Bool.{Bool, true, false}
 use mathlib.Core.List.{List, [], _∷_}
 use Prim.Native.Nat.{ℕ, zero, suc, _+_, _-_}
 use lib.ListN.{take, drop}
@@ -28,3 +29,8 @@ unfoldable pub past : ℕ → ℕ → List ℕ → ℕ
 past at zero cs = at
 past at (suc k) [] = at
 past at (suc k) (c ∷ cs) = past (at + width c) k cs
+
+-- how many characters at the start pass a test
+unfoldable pub run : (ℕ → Bool) → List ℕ → ℕ
+run p [] = 0
+run p (c ∷ cs) = elim (p c) [ true ↦ suc (run p cs) | false ↦ 0 ]

@@ -1,3 +1,4 @@
 pub mod Tokens
 pub mod Escapes
 pub mod Sets
+pub mod Promise

@@ -9,14 +9,10 @@ use lib.ListN.{take, drop}
 use Rattle.basics.specs.Basics.{if_then_else_, letters, is, among, head}
 use Rattle.error.specs.Causes.{unexpectedCharacter, unterminatedString, atWithoutName, unterminatedSet}
 use Rattle.characters.specs.Utf8.{width}
+use Rattle.characters.specs.Places.{run}
 use Rattle.characters.specs.Classes.{isEcmascriptWhitespace, isLineTerminator, isPunctuation, isWord}
 
 -- ------------------------------------------------------------------ how far something reaches, in characters
-
--- how many characters at the start pass a test: `scan_while`
-unfoldable pub run : (ℕ → Bool) → List ℕ → ℕ
-run p [] = 0
-run p (c ∷ cs) = elim (p c) [ true ↦ suc (run p cs) | false ↦ 0 ]
 
 -- one more, if there is a number
 abbrev pub more : Option ℕ → Option ℕ

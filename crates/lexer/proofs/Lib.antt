@@ -1,0 +1,9 @@
+pub mod Tokens
+pub mod Pieces
+pub mod Back
+pub mod Escaped
+pub mod Ordered
+pub mod Held
+pub mod Spans
+pub mod Faults
+pub mod Spelled

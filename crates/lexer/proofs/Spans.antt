@@ -1,0 +1,121 @@
+-- How the spans of a body go on at a place.
+-- Assumes nothing.
+use mathlib.Core.Path.{_≡_, refl, sym, _∙_, ap, subst}
+use mathlib.Core.Bool.{Bool, true, false, _&&_, not, and-false}
+use mathlib.Core.List.{List, [], _∷_}
+use mathlib.Core.Option.{Option, none, some}
+use Prim.Native.Nat.{ℕ, _+_, _≤_, _<_}
+use native.Mathlib.Omega.{arith}
+use lib.ListN.{length}
+use Rattle.basics.specs.Basics.{if_then_else_, is}
+use Rattle.characters.specs.Utf8.{codes}
+use Rattle.characters.specs.Spans.{Span, _upto_}
+use Rattle.characters.proofs.Encode.{scalar-top, width-some}
+use Rattle.lexer.specs.Escapes.{Atom}
+use Rattle.lexer.specs.Sets.{dash, rangeEnd, written, spans}
+use Rattle.lexer.specs.Promise.{atomsAt, ReadsAtom, spansAt, rangeAnswer, RangePlaced, ReadsRange}
+use Rattle.lexer.specs.declared.escapes.Atom as A
+use Rattle.lexer.specs.declared.escapes.Atom.the-variants as Read
+use Rattle.lexer.specs.declared.sets.Range.{Range}
+use Rattle.lexer.specs.declared.sets.Range.the-variants.{One, End}
+use Rattle.lexer.proofs.Escaped.{value-on, atoms-on}
+
+-- ------------------------------------------------------------------ the spans of atoms
+
+pub written-one : (a : Atom) (l : List Atom) → rangeEnd a l ≡ none → written (a ∷ l) 0 ≡ a .char upto (a .char + 1) ∷ written l 0
+unfolding written
+written-one a l e = rw e
+
+pub written-range : (a b z : Atom) (l : List Atom) → dash a ≡ false → dash b ≡ true
+    → written (a ∷ b ∷ z ∷ l) 0 ≡ a .char upto (z .char + 1) ∷ written l 0
+unfolding written rangeEnd
+written-range a b z l e f = rw (e, f)
+
+dash-none : (a : Atom) (l : List Atom) → dash a ≡ true → rangeEnd a l ≡ none
+unfolding rangeEnd
+dash-none a [] e = refl
+dash-none a (b ∷ []) e = refl
+dash-none a (b ∷ z ∷ l) e = rw e
+
+pub other-none : (a b : Atom) (l : List Atom) → dash b ≡ false → rangeEnd a (b ∷ l) ≡ none
+unfolding rangeEnd
+other-none a b [] e = refl
+other-none a b (z ∷ l) e = rw (e, and-false (not (dash a)))
+
+-- ------------------------------------------------------------------ the first span at a place
+
+-- an atom at a place
+pub record Stands (s : List ℕ) (at c : ℕ) (x : Bool) (end : ℕ) : Type 0 where
+  pub forth : at < end
+  pub inside : end ≤ length s
+  pub small : c < 0x110000
+  pub atom : atomsAt s at ≡ record { char = c; escaped = x } ∷ atomsAt s end
+
+pub atom-of : (s : List ℕ) (at : ℕ) (r : A.Atom) (c end : ℕ) (x : Bool) → ReadsAtom s at r → r ≡ Read.One c x end → Stands s at c x end
+atom-of s at r c end x h e =
+    let v = value-on s at r c end x h e in
+    let f = v .forth in
+    let w = width-some c in
+    record { forth = omega arith; inside = v .inside; small = scalar-top c (v .scalar); atom = atoms-on s at r c end x h e }
+
+abbrev atomOf : ℕ → Bool → Atom
+atomOf c x = record { char = c; escaped = x }
+
+module _ (s : List ℕ) (at : ℕ) where
+  pub range-none : atomsAt s at ≡ [] → ReadsRange s at End
+  unfolding spansAt written
+  range-none e = record { spans = rw e; placed = tt }
+
+  module _ (a after : ℕ) (x : Bool) (h : Stands s at a x after) where
+    single : rangeEnd (atomOf a x) (atomsAt s after) ≡ none → ReadsRange s at (One a (a + 1) after)
+    unfolding spansAt
+    single e =
+        record { spans = ap (λ (l : List Atom). written l 0) (h .atom) ∙ written-one (atomOf a x) (atomsAt s after) e; placed = (h .forth, h .inside) }
+
+    pub range-dash : dash (atomOf a x) ≡ true → ReadsRange s at (One a (a + 1) after)
+    range-dash e = single (dash-none (atomOf a x) (atomsAt s after) e)
+
+    pub range-last : atomsAt s after ≡ [] → ReadsRange s at (One a (a + 1) after)
+    unfolding rangeEnd
+    range-last e = single (rw e)
+
+    module _ (b next : ℕ) (y : Bool) (g : Stands s after b y next) where
+      pub range-single : dash (atomOf b y) ≡ false → ReadsRange s at (One a (a + 1) after)
+      range-single e = single (rw (g .atom) (other-none (atomOf a x) (atomOf b y) (atomsAt s next) e))
+
+      pub range-short : atomsAt s next ≡ [] → ReadsRange s at (One a (a + 1) after)
+      unfolding rangeEnd
+      range-short e = single (rw (g .atom, e))
+
+      pub range-whole : (z end : ℕ) (w : Bool) → dash (atomOf a x) ≡ false → dash (atomOf b y) ≡ true → Stands s next z w end
+          → ReadsRange s at (One a (z + 1) end)
+      unfolding spansAt
+      range-whole z end w e f k =
+          let p : atomsAt s at ≡ atomOf a x ∷ atomOf b y ∷ atomOf z w ∷ atomsAt s end =
+          h .atom ∙ ap (λ (l : List Atom). atomOf a x ∷ l) (g .atom ∙ ap (λ (l : List Atom). atomOf b y ∷ l) (k .atom)) in
+          let h₁ = h .forth in
+          let h₂ = g .forth in
+          let h₃ = k .forth in
+          record {
+            spans = ap (λ (l : List Atom). written l 0) p ∙ written-range (atomOf a x) (atomOf b y) (atomOf z w) (atomsAt s end) e f;
+            placed = (omega arith, k .inside);
+          }
+
+-- ------------------------------------------------------------------ the next span
+
+pub record Span-at (s : List ℕ) (at first past end : ℕ) : Type 0 where
+  pub forth : at < end
+  pub inside : end ≤ length s
+  pub span : spansAt s at ≡ first upto past ∷ spansAt s end
+
+module _ (s : List ℕ) (at : ℕ) (r : Range) (h : ReadsRange s at r) where
+  pub span-of : (first past end : ℕ) → r ≡ One first past end → Span-at s at first past end
+  span-of first past end e =
+      let q = subst (RangePlaced s at) e (h .placed) in record { forth = q .0; inside = q .1; span = h .spans ∙ ap (rangeAnswer s) e }
+
+  pub span-off : r ≡ End → spansAt s at ≡ []
+  span-off e = h .spans ∙ ap (rangeAnswer s) e
+
+pub spans-all : (s : List ℕ) → spansAt s 0 ≡ spans (codes s)
+unfolding spansAt atomsAt
+spans-all s = refl
