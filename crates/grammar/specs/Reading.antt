@@ -14,7 +14,8 @@ use Rattle.characters.specs.Utf8.{row, leadLen, charOf, firstChar, onChar, chec
 use Rattle.characters.specs.Spans.{inSpans}
 use Rattle.characters.specs.Alphabetic.{spans, isAlphabetic}
 use Rattle.characters.specs.Classes.{whiteSpace, isWhitespace, isEcmascriptWhitespace, isLineTerminator, isPunctuation, isWord}
-use Rattle.lexer.specs.Tokens.{Tokens, run, comment, body, solid, piece, tokensFrom, tokens}
+use Rattle.characters.specs.Places.{run}
+use Rattle.lexer.specs.Tokens.{Tokens, comment, body, solid, piece, tokensFrom, tokens}
 use Rattle.lexer.specs.Escapes.{hexDigit, scalar, fixed, untilBrace, braced, control, escape, atomsFrom, decodeString}
 use Rattle.lexer.specs.Sets.{rangeEnd, written, overlapsOne, faultFrom, insert, sorted}
 use Rattle.tree.specs.Syntax.{GrammarDeclaration}
