@@ -7,3 +7,4 @@ pub mod Readable
 pub mod Meets
 pub mod MeetsExpressions
 pub mod ReadBack
+pub mod ReadBackExpressions
