@@ -6,5 +6,8 @@ pub mod Fine
 pub mod Readable
 pub mod Meets
 pub mod MeetsExpressions
+pub mod Good
+pub mod Groups
+pub mod MeetsDeclarations
 pub mod ReadBack
 pub mod ReadBackExpressions
