@@ -11,3 +11,5 @@ pub mod Groups
 pub mod MeetsDeclarations
 pub mod ReadBack
 pub mod ReadBackExpressions
+pub mod Appends
+pub mod ReadBackDeclarations

@@ -46,7 +46,7 @@ unfolding each
 each-longer write h [] ks = omega arith
 each-longer write h (x ∷ xs) ks = let l = h x (each write xs ks) in let m = each-longer write h xs ks in omega arith
 
-after-longer : {A : Type 0} (write : A → List Kind → List Kind) → ((x : A) (ks : List Kind) → length ks < length (write x ks)) → (xs : List A) (ks : List Kind) → length ks ≤ length (eachAfter write xs ks)
+pub after-longer : {A : Type 0} (write : A → List Kind → List Kind) → ((x : A) (ks : List Kind) → length ks < length (write x ks)) → (xs : List A) (ks : List Kind) → length ks ≤ length (eachAfter write xs ks)
 unfolding eachAfter
 after-longer write h [] ks = omega arith
 after-longer write h (x ∷ xs) ks = let l = h x (eachAfter write xs ks) in let m = after-longer write h xs ks in omega arith
@@ -134,7 +134,7 @@ props-reads (x ∷ xs) g ks h =
     (commas-reads "]" refl GoodProp propTokens (λ _. parseProp) (λ x g ks. prop-begins x ks) prop-longer comma comma-reads refl (λ before x g ks b. prop-reads x ks (between-prop b)) (x ∷ xs) g ks))
 
 -- what props and then ks begin with
-props-first : (c : Char) (ps : List (Prop U)) (ks : List Kind) → isMark c (some (Kind.mark (code "["))) ≡ false → isMark c (firstOf ks) ≡ false → isMark c (firstOf (propsTokens ps ks)) ≡ false
+pub props-first : (c : Char) (ps : List (Prop U)) (ks : List Kind) → isMark c (some (Kind.mark (code "["))) ≡ false → isMark c (firstOf ks) ≡ false → isMark c (firstOf (propsTokens ps ks)) ≡ false
 props-first c [] ks h g = g
 props-first c (x ∷ xs) ks h g = h
 
@@ -292,7 +292,7 @@ mutual
   longer (any p) ks = omega arith
   longer (class p c) ks = omega arith
 
-  arguments-longer : (es : Expressions U) (ks : List Kind) → length ks ≤ length (argumentsTokens es ks)
+  pub arguments-longer : (es : Expressions U) (ks : List Kind) → length ks ≤ length (argumentsTokens es ks)
   arguments-longer []ᴱ ks = omega arith
   arguments-longer (e ∷ᴱ es) ks = let a = more-longer es ks in let b = longer e (moreArguments es ks) in omega arith
 
