@@ -181,3 +181,6 @@ declaration-adds (scopedSkip x) = more-adds _ (then-adds (body-adds (x .expressi
 pub externalProp-adds : (x : ExternalPropDeclaration U) → Adds (externalPropTokens x)
 unfolding externalPropTokens
 externalProp-adds x = more-adds _ (more-adds _ (more-adds _ (more-adds _ (from-adds (x .id) (x .source)))))
+
+pub dialects-adds : (ns : List (Identifier U)) → Adds (λ ks. at "dialects" (mark "{" (commas identifier ns (mark "}" ks))))
+dialects-adds ns = more-adds _ (braced-adds identifier name-adds ns)

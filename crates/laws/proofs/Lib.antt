@@ -13,3 +13,4 @@ pub mod ReadBack
 pub mod ReadBackExpressions
 pub mod Appends
 pub mod ReadBackDeclarations
+pub mod ReadBackGrammar

@@ -33,13 +33,13 @@ use Rattle.laws.proofs.ReadBackExpressions.{props-longer, props-reads, 
 
 -- ------------------------------------------------------------------ rules
 
-outer-braced : (e : Expression U) → Outer e → (ks : List Kind) → Reads (parseBracedExpression (choiceAt levels)) (bodyTokens e ks) e ks
+pub outer-braced : (e : Expression U) → Outer e → (ks : List Kind) → Reads (parseBracedExpression (choiceAt levels)) (bodyTokens e ks) e ks
 outer-braced e r ks = braced-reads Outer (choiceAt levels) (choiceAt-reads levels) (readable-up levels) e r ks
 
-name-longer : (n : Identifier U) (ks : List Kind) → length ks < length (identifier n ks)
+pub name-longer : (n : Identifier U) (ks : List Kind) → length ks < length (identifier n ks)
 name-longer n ks = omega arith
 
-names-longer : (xs : List (Identifier U)) (ks : List Kind) → length ks ≤ length (eachAfter identifier xs ks)
+pub names-longer : (xs : List (Identifier U)) (ks : List Kind) → length ks ≤ length (eachAfter identifier xs ks)
 unfolding eachAfter
 names-longer [] ks = omega arith
 names-longer (x ∷ xs) ks = let l = names-longer xs ks in omega arith
@@ -66,11 +66,11 @@ rule-reads r g ks =
     bind-reads _ (parseIdentifier-reads (r .id) _) (bind-reads _ (props-reads (r .props) (g .props) _ (params-first (r .params) (r .expression) ks))
     (params-reads (r .id) (r .props) (r .params) (r .expression) (g .params) (g .body) ks))
 
-params-longer : (xs : List (Identifier U)) (ks : List Kind) → length ks ≤ length (bracketed identifier "<" ">" xs ks)
+pub params-longer : (xs : List (Identifier U)) (ks : List Kind) → length ks ≤ length (bracketed identifier "<" ">" xs ks)
 params-longer [] ks = omega arith
 params-longer (x ∷ xs) ks = let l = names-longer xs (mark ">" ks) in omega arith
 
-rule-longer : (r : RuleDeclaration U) (ks : List Kind) → length ks < length (ruleTokens r ks)
+pub rule-longer : (r : RuleDeclaration U) (ks : List Kind) → length ks < length (ruleTokens r ks)
 rule-longer r ks =
     let a = longer (r .expression) (mark "}" ks) in
     let b = params-longer (r .params) (bodyTokens (r .expression) ks) in
@@ -104,7 +104,7 @@ unfolding expressionTokens
 reference-begins (TokenReference.name p t es) g ks = refl
 reference-begins (TokenReference.literal p t) g ks = refl
 
-reference-longer : (r : TokenReference U) (ks : List Kind) → length ks < length (referenceTokens r ks)
+pub reference-longer : (r : TokenReference U) (ks : List Kind) → length ks < length (referenceTokens r ks)
 unfolding expressionTokens
 reference-longer (TokenReference.name p t es) ks = let l = arguments-longer es ks in omega arith
 reference-longer (TokenReference.literal p t) ks = omega arith
@@ -117,14 +117,14 @@ module _ {A : Type 0} (G : A → Type 0) (write : A → List Kind → List Kind)
   between-stops at-comma = stop-comma
   between-stops at-close = stop-brace
 
-  braces-reads : (xs : List A) → Every G xs → (ks : List Kind) → Reads (expect "{" >> until (eat "}") commaOrNot item) (mark "{" (commas write xs (mark "}" ks))) xs ks
+  pub braces-reads : (xs : List A) → Every G xs → (ks : List Kind) → Reads (expect "{" >> until (eat "}") commaOrNot item) (mark "{" (commas write xs (mark "}" ks))) xs ks
   braces-reads xs g ks =
       bind-reads _ (expect-reads "{" _ _ refl) (commas-reads "}" refl G write item begins bigger commaOrNot commaOrNot-reads refl (λ before x g ks b. reads before x g ks (between-stops b)) xs g ks)
 
-names-reads : (ns : List (Identifier U)) → Every GoodName ns → (ks : List Kind) → Reads (expect "{" >> until (eat "}") commaOrNot (λ _. parseIdentifier)) (mark "{" (commas identifier ns (mark "}" ks))) ns ks
+pub names-reads : (ns : List (Identifier U)) → Every GoodName ns → (ks : List Kind) → Reads (expect "{" >> until (eat "}") commaOrNot (λ _. parseIdentifier)) (mark "{" (commas identifier ns (mark "}" ks))) ns ks
 names-reads = braces-reads GoodName identifier (λ _. parseIdentifier) (λ n g ks. refl) name-longer (λ before n g ks z. parseIdentifier-reads n ks)
 
-precedence-reads : (x : TokenPrecDeclaration U) → GoodTokenPrec x → (ks : List Kind) → Reads parseTokenPrecedence (tokenPrecTokens x ks) x ks
+pub precedence-reads : (x : TokenPrecDeclaration U) → GoodTokenPrec x → (ks : List Kind) → Reads parseTokenPrecedence (tokenPrecTokens x ks) x ks
 unfolding parseTokenPrecedence
 precedence-reads x g ks =
     bind-reads _ (here-reads _) (bind-reads _ (next-reads _ _) (bind-reads _
@@ -145,24 +145,24 @@ node-reads : (x : NamedNode U) → GoodNode x → (ks : List Kind) → isMark "[
 unfolding parseNamedNode
 node-reads x g ks h = bind-reads _ (parseIdentifier-reads (x .id) _) (bind-reads _ (props-reads (x .props) (g .props) ks h) (pure-reads _ ks))
 
-node-longer : (x : NamedNode U) (ks : List Kind) → length ks < length (namedNodeTokens x ks)
+pub node-longer : (x : NamedNode U) (ks : List Kind) → length ks < length (namedNodeTokens x ks)
 node-longer x ks = let l = props-longer (x .props) ks in omega arith
 
 -- ------------------------------------------------------------------ members of blocks, written one after another
 
 module _ {B : Type 0} (write : B → List Kind → List Kind) where
-  each-append : (xs ys : List B) (ks : List Kind) → each write (xs ++ ys) ks ≡ each write xs (each write ys ks)
+  pub each-append : (xs ys : List B) (ks : List Kind) → each write (xs ++ ys) ks ≡ each write xs (each write ys ks)
   unfolding each
   each-append [] ys ks = refl
   each-append (x ∷ xs) ys ks = ap (write x) (each-append xs ys ks)
 
-  each-map : {A : Type 0} (c : A → B) (xs : List A) (ks : List Kind) → each write (map c xs) ks ≡ each (λ x. write (c x)) xs ks
+  pub each-map : {A : Type 0} (c : A → B) (xs : List A) (ks : List Kind) → each write (map c xs) ks ≡ each (λ x. write (c x)) xs ks
   unfolding each
   each-map c [] ks = refl
   each-map c (x ∷ xs) ks = ap (write (c x)) (each-map c xs ks)
 
 module _ {A B : Type 0} (p : B → Option A) where
-  picked-append : (xs ys : List B) → picked p (xs ++ ys) ≡ picked p xs ++ picked p ys
+  pub picked-append : (xs ys : List B) → picked p (xs ++ ys) ≡ picked p xs ++ picked p ys
   unfolding picked
   picked-append [] ys = refl
   picked-append (x ∷ xs) ys = rw (picked-append xs ys) (go (p x))
@@ -171,21 +171,21 @@ module _ {A B : Type 0} (p : B → Option A) where
       go none = refl
       go (some a) = refl
 
-  picked-all : (c : A → B) → ((a : A) → p (c a) ≡ some a) → (xs : List A) → picked p (map c xs) ≡ xs
+  pub picked-all : (c : A → B) → ((a : A) → p (c a) ≡ some a) → (xs : List A) → picked p (map c xs) ≡ xs
   unfolding picked
   picked-all c e [] = refl
   picked-all c e (x ∷ xs) = rw (e x, picked-all c e xs)
 
-  picked-no : {C : Type 0} (c : C → B) → ((a : C) → p (c a) ≡ none) → (xs : List C) → picked p (map c xs) ≡ []
+  pub picked-no : {C : Type 0} (c : C → B) → ((a : C) → p (c a) ≡ none) → (xs : List C) → picked p (map c xs) ≡ []
   unfolding picked
   picked-no c e [] = refl
   picked-no c e (x ∷ xs) = rw (e x) (picked-no c e xs)
 
-map-every : {A B : Type 0} {G : A → Type 0} {H : B → Type 0} (c : A → B) → ((a : A) → G a → H (c a)) → {xs : List A} → Every G xs → Every H (map c xs)
+pub map-every : {A B : Type 0} {G : A → Type 0} {H : B → Type 0} (c : A → B) → ((a : A) → G a → H (c a)) → {xs : List A} → Every G xs → Every H (map c xs)
 map-every c f every-none = every-none
 map-every c f (every-more {x} g q) = every-more (f x g) (map-every c f q)
 
-join-every : {A : Type 0} {G : A → Type 0} {xs ys : List A} → Every G xs → Every G ys → Every G (xs ++ ys)
+pub join-every : {A : Type 0} {G : A → Type 0} {xs ys : List A} → Every G xs → Every G ys → Every G (xs ++ ys)
 join-every every-none h = h
 join-every (every-more g e) h = every-more g (join-every e h)
 
@@ -213,14 +213,14 @@ token-begins c z (TokenMember.conflict x) ks = z
 token-begins c z (TokenMember.rule x) ks = z
 token-begins c z (TokenMember.literal x) ks = z
 
-references-longer : (rs : List (TokenReference U)) (ks : List Kind) → length ks ≤ length (commas referenceTokens rs ks)
+pub references-longer : (rs : List (TokenReference U)) (ks : List Kind) → length ks ≤ length (commas referenceTokens rs ks)
 references-longer [] ks = omega arith
 references-longer (r ∷ rs) ks = let a = reference-longer r (eachAfter referenceTokens rs ks) in let b = go rs in omega arith
   where
     go : (rs : List (TokenReference U)) → length ks ≤ length (eachAfter referenceTokens rs ks)
     go rs = after-longer referenceTokens reference-longer rs ks
 
-token-longer : (m : TokenMember U) (ks : List Kind) → length ks < length (tokenMemberTokens m ks)
+pub token-longer : (m : TokenMember U) (ks : List Kind) → length ks < length (tokenMemberTokens m ks)
 token-longer (TokenMember.precedence x) ks = let a = references-longer (x .items) (mark "}" ks) in omega arith
 token-longer (TokenMember.conflict x) ks =
     let a = reference-longer (x .right) (mark "}" ks) in
@@ -308,7 +308,7 @@ module _ (ps : List (TokenPrecDeclaration U)) (cs : List (TokenConflictDeclarati
   token-every a b c d =
       join-every (map-every TokenMember.precedence (λ x. good-prec) a) (join-every (map-every TokenMember.conflict (λ x. good-conflict) b) (join-every (map-every TokenMember.rule (λ x. good-a-rule) c) (map-every TokenMember.literal (λ x. good-literal) d)))
 
-tokens-reads : (x : TokenDeclaration U) → Every GoodTokenPrec (x .precedences) → Every GoodTokenConflict (x .conflicts) → Every (GoodRule Outer) (x .rules) → Every GoodLiteral (x .literals) → (ks : List Kind)
+pub tokens-reads : (x : TokenDeclaration U) → Every GoodTokenPrec (x .precedences) → Every GoodTokenConflict (x .conflicts) → Every (GoodRule Outer) (x .rules) → Every GoodLiteral (x .literals) → (ks : List Kind)
     → Reads parseTokens (declarationTokens (Declaration.tokens x) ks) x ks
 unfolding parseTokens declarationTokens
 tokens-reads x a b c d ks =
@@ -346,7 +346,7 @@ plain-begins (plain-rule g) ks = refl
 abbrev localStep : List (LocalMember U) → Parser U (Option (LocalMember U))
 localStep = untilStep (eat "}") nothing parseLocalMember
 
-apart : {A : Type 0} (before : List A) (ks : List Kind) → Reads (separate nothing before) ks tt ks
+pub apart : {A : Type 0} (before : List A) (ks : List Kind) → Reads (separate nothing before) ks tt ks
 unfolding separate
 apart [] ks = pure-reads tt ks
 apart (y ∷ ys) ks = pure-reads tt ks
@@ -389,7 +389,7 @@ module _ (ps : List (TokenPrecDeclaration U)) (rs : List (RuleDeclaration U)) wh
       picked-append localFallback (map LocalMember.precedence ps) (map LocalMember.rule rs)
       ∙ rw (picked-no localFallback LocalMember.precedence (λ x. refl) ps, picked-no localFallback LocalMember.rule (λ x. refl) rs)
 
-  abbrev fallbackMembers : Option (NamedNode U) → List (LocalMember U)
+  abbrev pub fallbackMembers : Option (NamedNode U) → List (LocalMember U)
   fallbackMembers none = []
   fallbackMembers (some x) = LocalMember.fallback x ∷ []
 
@@ -397,7 +397,7 @@ module _ (ps : List (TokenPrecDeclaration U)) (rs : List (RuleDeclaration U)) wh
       → picked p (plainMembers ++ fallbackMembers o) ≡ (picked p (map LocalMember.precedence ps) ++ picked p (map LocalMember.rule rs)) ++ picked p (fallbackMembers o)
   local-split p o = picked-append p plainMembers (fallbackMembers o) ∙ rw (picked-append p (map LocalMember.precedence ps) (map LocalMember.rule rs))
 
-  local-precs : (o : Option (NamedNode U)) → picked localPrecedence (plainMembers ++ fallbackMembers o) ≡ ps
+  pub local-precs : (o : Option (NamedNode U)) → picked localPrecedence (plainMembers ++ fallbackMembers o) ≡ ps
   unfolding picked
   local-precs o = local-split localPrecedence o ∙ rw (picked-all localPrecedence LocalMember.precedence (λ x. refl) ps, picked-no localPrecedence LocalMember.rule (λ x. refl) rs, append-none ps) (go o)
     where
@@ -442,7 +442,7 @@ module _ (ps : List (TokenPrecDeclaration U)) (rs : List (RuleDeclaration U)) wh
       (loop-reads localStep ks _ (plainMembers ++ fallbackMembers o) (plain-back plainMembers (plain-every a b) [] ks (fallbackTokens o (mark "}" ks)) (fallbackMembers o) (local-end o f ks))))
 
 -- after `@local tokens`
-local-tokens-reads : (x : LocalTokenDeclaration U) → Every GoodTokenPrec (x .precedences) → Every (GoodRule Outer) (x .rules) → Found GoodNode (x .fallback) → (ks : List Kind)
+pub local-tokens-reads : (x : LocalTokenDeclaration U) → Every GoodTokenPrec (x .precedences) → Every (GoodRule Outer) (x .rules) → Found GoodNode (x .fallback) → (ks : List Kind)
     → Reads (parseLocalTokens tt) (mark "{" (each tokenPrecTokens (x .precedences) (each ruleTokens (x .rules) (fallbackTokens (x .fallback) (mark "}" ks))))) x ks
 unfolding parseLocalTokens
 local-tokens-reads x a b f ks =
@@ -473,7 +473,7 @@ skip-begins m (good-skip-top g) ks = refl
 skip-begins m (good-skip-rule g) ks = refl
 
 module _ (ts rs : List (RuleDeclaration U)) where
-  abbrev skipMembers : List (SkipMember U)
+  abbrev pub skipMembers : List (SkipMember U)
   skipMembers = map SkipMember.topRule ts ++ map SkipMember.rule rs
 
   skip-written : (ks : List Kind) → each skipMemberTokens skipMembers ks ≡ each topRuleTokens ts (each ruleTokens rs ks)
@@ -483,16 +483,16 @@ module _ (ts rs : List (RuleDeclaration U)) where
   skip-every : Every (GoodRule Outer) ts → Every (GoodRule Outer) rs → Every GoodSkipMember skipMembers
   skip-every a b = join-every (map-every SkipMember.topRule (λ x. good-skip-top) a) (map-every SkipMember.rule (λ x. good-skip-rule) b)
 
-  skip-tops : picked skipTopRule skipMembers ≡ ts
+  pub skip-tops : picked skipTopRule skipMembers ≡ ts
   skip-tops =
       picked-append skipTopRule (map SkipMember.topRule ts) (map SkipMember.rule rs)
       ∙ rw (picked-all skipTopRule SkipMember.topRule (λ x. refl) ts, picked-no skipTopRule SkipMember.rule (λ x. refl) rs, append-none ts)
 
-  skip-rules : picked skipRule skipMembers ≡ rs
+  pub skip-rules : picked skipRule skipMembers ≡ rs
   skip-rules =
       picked-append skipRule (map SkipMember.topRule ts) (map SkipMember.rule rs) ∙ rw (picked-no skipRule SkipMember.topRule (λ x. refl) ts, picked-all skipRule SkipMember.rule (λ x. refl) rs)
 
-  skip-block : Every (GoodRule Outer) ts → Every (GoodRule Outer) rs → (ks : List Kind)
+  pub skip-block : Every (GoodRule Outer) ts → Every (GoodRule Outer) rs → (ks : List Kind)
       → Reads (expect "{" >> until (eat "}") nothing parseSkipMember) (mark "{" (each topRuleTokens ts (each ruleTokens rs (mark "}" ks)))) skipMembers ks
   skip-block a b ks =
       rw (← skip-written (mark "}" ks)) (bind-reads _ (expect-reads "{" _ _ refl)
@@ -505,7 +505,7 @@ externalMemberTokens (ExternalMember.token x) ks = namedNodeTokens x ks
 externalMemberTokens (ExternalMember.conflicts ns) ks = at "conflict" (mark "{" (commas identifier ns (mark "}" ks)))
 
 -- lists of conflicts stand only where they are allowed
-data GoodExternalMember (allowed : Bool) : ExternalMember U → Type 0 where
+pub data GoodExternalMember (allowed : Bool) : ExternalMember U → Type 0 where
   good-external-node : {x : NamedNode U} → GoodNode x → GoodExternalMember allowed (ExternalMember.token x)
   good-external-names : {ns : List (Identifier U)} → allowed ≡ true → Every GoodName ns → GoodExternalMember allowed (ExternalMember.conflicts ns)
 
@@ -529,7 +529,7 @@ external-begins : (allowed : Bool) (m : ExternalMember U) → GoodExternalMember
 external-begins allowed m (good-external-node g) ks = refl
 external-begins allowed m (good-external-names e g) ks = refl
 
-external-longer : (m : ExternalMember U) (ks : List Kind) → length ks < length (externalMemberTokens m ks)
+pub external-longer : (m : ExternalMember U) (ks : List Kind) → length ks < length (externalMemberTokens m ks)
 external-longer (ExternalMember.token x) ks = node-longer x ks
 external-longer (ExternalMember.conflicts []) ks = omega arith
 external-longer (ExternalMember.conflicts (n ∷ ns)) ks = let l = names-longer ns (mark "}" ks) in omega arith
@@ -538,7 +538,7 @@ abbrev conflictMembers : List (Identifier U) → List (ExternalMember U)
 conflictMembers [] = []
 conflictMembers (n ∷ ns) = ExternalMember.conflicts (n ∷ ns) ∷ []
 
-abbrev externalMembers : List (NamedNode U) → List (Identifier U) → List (ExternalMember U)
+abbrev pub externalMembers : List (NamedNode U) → List (Identifier U) → List (ExternalMember U)
 externalMembers xs ns = map ExternalMember.token xs ++ conflictMembers ns
 
 nodes-after : (xs : List (NamedNode U)) (ms : List (ExternalMember U)) (ks : List Kind) → eachAfter externalMemberTokens (map ExternalMember.token xs ++ ms) ks ≡ eachAfter namedNodeTokens xs (eachAfter externalMemberTokens ms ks)
@@ -546,21 +546,21 @@ unfolding eachAfter
 nodes-after [] ms ks = refl
 nodes-after (x ∷ xs) ms ks = ap (λ l. mark "," (namedNodeTokens x l)) (nodes-after xs ms ks)
 
-external-written : (xs : List (NamedNode U)) (ns : List (Identifier U)) (ks : List Kind) → externalSetTokens xs ns ks ≡ mark "{" (commas externalMemberTokens (externalMembers xs ns) (mark "}" ks))
+pub external-written : (xs : List (NamedNode U)) (ns : List (Identifier U)) (ks : List Kind) → externalSetTokens xs ns ks ≡ mark "{" (commas externalMemberTokens (externalMembers xs ns) (mark "}" ks))
 unfolding eachAfter
 external-written [] [] ks = refl
 external-written (x ∷ xs) [] ks = ap (λ l. mark "{" (namedNodeTokens x l)) (sym (nodes-after xs [] (mark "}" ks)))
 external-written [] (n ∷ ns) ks = refl
 external-written (x ∷ xs) (n ∷ ns) ks = ap (λ l. mark "{" (namedNodeTokens x l)) (sym (nodes-after xs (ExternalMember.conflicts (n ∷ ns) ∷ []) (mark "}" ks)))
 
-external-every : (allowed : Bool) (xs : List (NamedNode U)) (ns : List (Identifier U)) → (ns ≡ [] → ⊥) → allowed ≡ true → Every GoodNode xs → Every GoodName ns → Every (GoodExternalMember allowed) (externalMembers xs ns)
+pub external-every : (allowed : Bool) (xs : List (NamedNode U)) (ns : List (Identifier U)) → (ns ≡ [] → ⊥) → allowed ≡ true → Every GoodNode xs → Every GoodName ns → Every (GoodExternalMember allowed) (externalMembers xs ns)
 external-every allowed xs [] h e a b = absurd (h refl)
 external-every allowed xs (n ∷ ns) h e a b = join-every (map-every ExternalMember.token (λ x. good-external-node) a) (every-more (good-external-names e b) every-none)
 
-nodes-every : (allowed : Bool) (xs : List (NamedNode U)) → Every GoodNode xs → Every (GoodExternalMember allowed) (externalMembers xs [])
+pub nodes-every : (allowed : Bool) (xs : List (NamedNode U)) → Every GoodNode xs → Every (GoodExternalMember allowed) (externalMembers xs [])
 nodes-every allowed xs a = join-every (map-every ExternalMember.token (λ x. good-external-node) a) every-none
 
-external-nodes : (xs : List (NamedNode U)) (ns : List (Identifier U)) → picked externalToken (externalMembers xs ns) ≡ xs
+pub external-nodes : (xs : List (NamedNode U)) (ns : List (Identifier U)) → picked externalToken (externalMembers xs ns) ≡ xs
 unfolding picked
 external-nodes xs ns = picked-append externalToken (map ExternalMember.token xs) (conflictMembers ns) ∙ rw (picked-all externalToken ExternalMember.token (λ x. refl) xs) (go ns)
   where
@@ -571,7 +571,7 @@ external-nodes xs ns = picked-append externalToken (map ExternalMember.token xs)
 external-lists : (xs : List (NamedNode U)) (ns : List (Identifier U)) → picked externalConflicts (externalMembers xs ns) ≡ picked externalConflicts (conflictMembers ns)
 external-lists xs ns = picked-append externalConflicts (map ExternalMember.token xs) (conflictMembers ns) ∙ rw (picked-no externalConflicts ExternalMember.token (λ x. refl) xs)
 
-external-names : (xs : List (NamedNode U)) (ns : List (Identifier U)) → concat (picked externalConflicts (externalMembers xs ns)) ≡ ns
+pub external-names : (xs : List (NamedNode U)) (ns : List (Identifier U)) → concat (picked externalConflicts (externalMembers xs ns)) ≡ ns
 unfolding concat picked
 external-names xs ns = rw (external-lists xs ns) (go ns)
   where
@@ -579,7 +579,7 @@ external-names xs ns = rw (external-lists xs ns) (go ns)
     go [] = refl
     go (n ∷ ns) = append-none (n ∷ ns)
 
-external-set : (allowed : Bool) (xs : List (NamedNode U)) (ns : List (Identifier U)) → Every (GoodExternalMember allowed) (externalMembers xs ns) → (ks : List Kind)
+pub external-set : (allowed : Bool) (xs : List (NamedNode U)) (ns : List (Identifier U)) → Every (GoodExternalMember allowed) (externalMembers xs ns) → (ks : List Kind)
     → Reads (parseExternalTokenSet allowed) (externalSetTokens xs ns ks) (externalMembers xs ns) ks
 unfolding parseExternalTokenSet
 external-set allowed xs ns g ks =
