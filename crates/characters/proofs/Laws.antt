@@ -76,6 +76,6 @@ ascii-at s at h g = rw (drop-cons s at 0) (as-1 (getD s at 0) (drop (suc at) s) 
 -- a character by the bytes from a place on
 pub bytes-at : (s : List ℕ) (at : ℕ) → at < length s
     → decodeAt s at
-    ≡ charOf (leadLen (getD s at 0) (getD (drop at s) 1 0)) (getD s at 0) (getD (drop at s) 1 0) (getD (drop at s) 2 0) (getD (drop at s) 3 0)
+    ≡ charOf (leadLen (getD (drop at s) 0 0) (getD (drop at s) 1 0)) (getD (drop at s) 0 0) (getD (drop at s) 1 0) (getD (drop at s) 2 0) (getD (drop at s) 3 0)
 unfolding decodeAt firstChar
 bytes-at s at h = rw (drop-cons s at 0)

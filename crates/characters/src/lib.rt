@@ -5,7 +5,7 @@ use table::ALPHABETIC;
 use table::WHITE_SPACE;
 ghost use mathlib.Core.Path.{_≡_};
 ghost use mathlib.Core.List.{List};
-ghost use Prim.Native.Nat.{_+_, _-_, _≤_};
+ghost use Prim.Native.Nat.{_+_, _≤_, _<_};
 ghost use lib.Dec.{T};
 ghost use lib.ListN.{length, getD, take, drop};
 ghost use Rattle.basics.specs.Basics.{within, among, every};
@@ -114,7 +114,19 @@ fn of_len(n: usize, a: u32, b: u32, c: u32, d: u32) -> Char
     }
 }
 
-// The character at a place. An ASCII byte is one by itself.
+// The character at a place within the text, by all four bytes.
+fn decode_wide(text: &[u8], at: usize) -> Char
+    requires { ⌜ at < length (now text) ⌝ }
+    ensures { λ r. ⌜ r ≡ decodeAt (now (text .entry)) at ⌝ }
+{
+    let a = byte_from(text, at, 0);
+    let b = byte_from(text, at, 1);
+    let c = byte_from(text, at, 2);
+    let d = byte_from(text, at, 3);
+    of_len(lead_len(a, b), a, b, c, d)
+}
+
+// The character at a place. An ASCII byte is one by itself; the rest stands apart, so that callers take this much in.
 pub fn decode(text: &[u8], at: usize) -> Char
     ensures { λ r. ⌜ r ≡ decodeAt (now (text .entry)) at ⌝ }
 {
@@ -125,10 +137,7 @@ pub fn decode(text: &[u8], at: usize) -> Char
     if a < 0x80 {
         return Char::Scalar(a, 1);
     }
-    let b = byte_from(text, at, 1);
-    let c = byte_from(text, at, 2);
-    let d = byte_from(text, at, 3);
-    of_len(lead_len(a, b), a, b, c, d)
+    decode_wide(text, at)
 }
 
 // The code of the character at a place, or 0.
@@ -291,6 +300,13 @@ fn is_ascii_letter(code: u32) -> bool
     is_within(0x61, 0x7A, code)
 }
 
+// A borrowed constant is copied where its function starts: the functions with a table have nothing else.
+fn in_alphabetic(code: u32) -> bool
+    ensures { λ r. ⌜ r ≡ isAlphabetic code ⌝ }
+{
+    in_spans(&ALPHABETIC, code)
+}
+
 // Whether a code is Alphabetic. ASCII needs no table.
 pub fn is_alphabetic(code: u32) -> bool
     ensures { λ r. ⌜ r ≡ isAlphabetic code ⌝ }
@@ -298,7 +314,7 @@ pub fn is_alphabetic(code: u32) -> bool
     if code < 0x80 {
         return is_ascii_letter(code);
     }
-    in_spans(&ALPHABETIC, code)
+    in_alphabetic(code)
 }
 
 fn is_ascii_space(code: u32) -> bool
@@ -310,6 +326,12 @@ fn is_ascii_space(code: u32) -> bool
     is_within(0x09, 0x0D, code)
 }
 
+fn in_white_space(code: u32) -> bool
+    ensures { λ r. ⌜ r ≡ isWhitespace code ⌝ }
+{
+    in_spans(&WHITE_SPACE, code)
+}
+
 // Whether a code is White_Space. ASCII needs no table.
 pub fn is_whitespace(code: u32) -> bool
     ensures { λ r. ⌜ r ≡ isWhitespace code ⌝ }
@@ -317,7 +339,7 @@ pub fn is_whitespace(code: u32) -> bool
     if code < 0x80 {
         return is_ascii_space(code);
     }
-    in_spans(&WHITE_SPACE, code)
+    in_white_space(code)
 }
 
 pub fn is_ascii_digit(code: u32) -> bool
@@ -360,16 +382,16 @@ pub fn is_punctuation(code: u32) -> bool
 pub fn is_word(code: u32) -> bool
     ensures { λ r. ⌜ r ≡ isWord code ⌝ }
 {
-    if code == 0x5F {
-        return true;
-    }
-    if code == 0x2D {
+    if is_alphabetic(code) {
         return true;
     }
     if is_ascii_digit(code) {
         return true;
     }
-    is_alphabetic(code)
+    if code == 0x5F {
+        return true;
+    }
+    code == 0x2D
 }
 
 // ECMAScript's white space and line terminators.
