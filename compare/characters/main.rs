@@ -230,14 +230,14 @@ fn measured() {
     println!("64 KB, in microseconds: ours, Rust's, ratio");
     for (what, text) in &texts {
         let bytes = text.as_bytes();
-        let ours = least(|| drop(black_box(unsafe { characters_check(black_box(bytes)) })));
-        let theirs = least(|| drop(black_box(std::str::from_utf8(black_box(bytes)).is_ok())));
+        let ours = least(|| { black_box(unsafe { characters_check(black_box(bytes)) }); });
+        let theirs = least(|| { black_box(std::str::from_utf8(black_box(bytes)).is_ok()); });
         println!("  {what:<28} {:>8.2} {:>8.2} {:>6.2}", ours / 1e3, theirs / 1e3, ours / theirs);
     }
     let words = [("words, ASCII", fitted("identifier_one-2nd").replace(' ', "a")), ("words, two bytes each", fitted("слово").replace(' ', "a"))];
     for (what, text) in &words {
-        let ours = least(|| drop(black_box(unsafe { characters_scan_word(black_box(text.as_bytes()), 0) })));
-        let theirs = least(|| drop(black_box(scan_while(black_box(text), 0, is_word))));
+        let ours = least(|| { black_box(unsafe { characters_scan_word(black_box(text.as_bytes()), 0) }); });
+        let theirs = least(|| { black_box(scan_while(black_box(text), 0, is_word)); });
         println!("  {what:<28} {:>8.2} {:>8.2} {:>6.2}", ours / 1e3, theirs / 1e3, ours / theirs);
     }
 }

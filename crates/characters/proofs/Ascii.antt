@@ -2,16 +2,17 @@
 -- Assumes nothing.
 use mathlib.Core.Path.{_≡_, refl}
 use mathlib.Core.Bool.{Bool, true, false, _&&_}
-use Prim.Native.Nat.{ℕ, zero, suc, _<_}
+use Prim.Native.Nat.{ℕ, zero, suc, _≤_, _<_}
 use native.Mathlib.Nat.{not-suc-le-zero}
 use native.Mathlib.Decide.{ℕ-discrete}
 use native.Mathlib.Omega.{arith}
 use lib.Dec.{T}
-use Rattle.basics.proofs.Tests.{and-left, and-right}
+use borrow.Author.Tests.{ne-eqb}
+use Rattle.basics.proofs.Tests.{and-left, and-right, within-hi}
 use Rattle.characters.specs.Spans.{inSpans}
 use Rattle.characters.specs.Alphabetic.{isAlphabetic, spans}
-use Rattle.characters.specs.Classes.{isWhitespace, whiteSpace}
-use Rattle.characters.specs.Promise.{isAsciiLetter, isAsciiSpace}
+use Rattle.characters.specs.Classes.{isWhitespace, whiteSpace, isWord}
+use Rattle.characters.specs.Promise.{isAsciiLetter, isAsciiSpace, isAsciiWord}
 
 same : Bool → Bool → Bool
 same true b = b
@@ -55,3 +56,15 @@ spaces-agree = tt
 
 pub ascii-space : (k : ℕ) → k < 0x80 → isWhitespace k ≡ isAsciiSpace k
 ascii-space k h = agree-at isWhitespace isAsciiSpace 0x80 spaces-agree k h
+
+words-agree : T (agree isWord isAsciiWord 0x80)
+unfolding agree same isWord isAsciiWord isAlphabetic isAsciiLetter inSpans spans
+words-agree = tt
+
+pub ascii-word : (k : ℕ) → k < 0x80 → isWord k ≡ isAsciiWord k
+ascii-word k h = agree-at isWord isAsciiWord 0x80 words-agree k h
+
+-- above, only Alphabetic codes are in words
+pub wide-word : (k : ℕ) → 0x80 ≤ k → isWord k ≡ isAlphabetic k
+unfolding isWord
+wide-word k h = simp (ne-eqb k 0x5F (λ e. omega arith), ne-eqb k 0x2D (λ e. omega arith), within-hi 0x30 0x39 k (omega arith))

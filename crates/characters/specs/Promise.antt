@@ -48,6 +48,9 @@ isAsciiLetter c = within 0x41 0x5A c || within 0x61 0x7A c
 unfoldable pub isAsciiSpace : ℕ → Bool
 isAsciiSpace c = eqb c 0x20 || within 0x09 0x0D c
 
+unfoldable pub isAsciiWord : ℕ → Bool
+isAsciiWord c = isAsciiLetter c || within 0x30 0x39 c || eqb c 0x5F || eqb c 0x2D
+
 -- ------------------------------------------------------------------ tables of spans
 
 -- the ends of spans, one after another

@@ -14,7 +14,7 @@ ghost use Rattle.characters.specs.Places.{decodeAt, peekAt, run};
 ghost use Rattle.characters.specs.Spans.{Span, inSpans};
 ghost use Rattle.characters.specs.Alphabetic.{isAlphabetic};
 ghost use Rattle.characters.specs.Classes.{isAscii, isAsciiDigit, isAsciiHexdigit, isWhitespace, isEcmascriptWhitespace, isLineTerminator, isPunctuation, isWord};
-ghost use Rattle.characters.specs.Promise.{isSecond, runEnd, written, scalarBytes, ascending, flat, Split, isAsciiLetter, isAsciiSpace};
+ghost use Rattle.characters.specs.Promise.{isSecond, runEnd, written, scalarBytes, ascending, flat, Split, isAsciiLetter, isAsciiSpace, isAsciiWord};
 
 // The character at a place: its code and how many bytes it takes.
 pub enum Char {
@@ -150,13 +150,13 @@ pub fn peek(text: &[u8], at: usize) -> u32
     c
 }
 
-// Whether the 32 bytes from a place on are ASCII. The sum has no branch, so that many bytes are taken at a time.
+// Whether the 128 bytes from a place on are ASCII. The sum has no branch, so that many bytes are taken at a time.
 fn is_ascii_block(text: &[u8], at: usize) -> bool
-    requires { ⌜ at + 32 ≤ length (now text) ⌝ }
-    ensures { λ r. ⌜ r ≡ every isAscii (take 32 (drop at (now (text .entry)))) ⌝ }
+    requires { ⌜ at + 128 ≤ length (now text) ⌝ }
+    ensures { λ r. ⌜ r ≡ every isAscii (take 128 (drop at (now (text .entry)))) ⌝ }
 {
     let mut high: u8 = 0;
-    for k in 0..32 {
+    for k in 0..128 {
         high += text[at + k] / 128;
     }
     high == 0
@@ -168,11 +168,11 @@ fn skip_ascii(text: &[u8], from: usize) -> usize
     ensures { λ r. ⌜ r ≡ from + run isAscii (drop from (now (text .entry))) ⌝ }
 {
     let mut at = from;
-    while 32 <= text.len() - at {
+    while 128 <= text.len() - at {
         if !is_ascii_block(text, at) {
             break;
         }
-        at += 32;
+        at += 128;
     }
     while at < text.len() {
         if 0x80 <= text[at] {
@@ -192,7 +192,7 @@ pub fn check(text: &[u8]) -> Checked
         if text[at] < 0x80 {
             at = skip_ascii(text, at);
         } else {
-            let Char::Scalar(_, n) = decode(text, at) else {
+            let Char::Scalar(_, n) = decode_wide(text, at) else {
                 return Checked::IllAt(at);
             };
             at += n;
@@ -378,11 +378,10 @@ pub fn is_punctuation(code: u32) -> bool
     is_among(b"[]()!~+*?{}<>.,|:$=", code)
 }
 
-// Whether a code may stand in a name.
-pub fn is_word(code: u32) -> bool
-    ensures { λ r. ⌜ r ≡ isWord code ⌝ }
+fn is_ascii_word(code: u32) -> bool
+    ensures { λ r. ⌜ r ≡ isAsciiWord code ⌝ }
 {
-    if is_alphabetic(code) {
+    if is_ascii_letter(code) {
         return true;
     }
     if is_ascii_digit(code) {
@@ -392,6 +391,16 @@ pub fn is_word(code: u32) -> bool
         return true;
     }
     code == 0x2D
+}
+
+// Whether a code may stand in a name.
+pub fn is_word(code: u32) -> bool
+    ensures { λ r. ⌜ r ≡ isWord code ⌝ }
+{
+    if code < 0x80 {
+        return is_ascii_word(code);
+    }
+    in_alphabetic(code)
 }
 
 // ECMAScript's white space and line terminators.

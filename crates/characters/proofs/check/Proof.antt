@@ -34,8 +34,8 @@ loop-less c = let r = run-next isAscii (now (c .before .before .before .before .
 loop-again : tie.Need-loop-again Inv-loop μ-loop
 loop-again c = rw (c .skip-ascii .ensures) (sym (check-skip _ _) ∙ c .before .before .before .before .loop .inv)
 
-decode-requires : tie.Need-decode-requires Inv-loop μ-loop
-decode-requires c κs = tt
+decode-wide-requires : tie.Need-decode-wide-requires Inv-loop μ-loop
+decode-wide-requires c κs = omega arith
 
 enum-known-n : tie.Need-enum-known-n Inv-loop μ-loop
 enum-known-n c = search needs
@@ -44,16 +44,16 @@ enum-told : tie.Need-enum-told Inv-loop μ-loop
 enum-told c = search needs
 
 returns : tie.Need-returns Inv-loop μ-loop
-returns c = sym (check-bad _ _ (c .before .before .before .before .before .loop-test .taken) (sym (c .before .before .decode .ensures) ∙ c .enum-told .given .1)) ∙ c .before .before .before .before .before .before .loop .inv
+returns c = sym (check-bad _ _ (c .before .before .before .before .before .loop-test .taken) (sym (c .before .before .decode-wide .ensures) ∙ c .enum-told .given .1)) ∙ c .before .before .before .before .before .before .loop .inv
 
 add-at : tie.Need-add-at Inv-loop μ-loop
-add-at c = let f = scalar-fits _ _ (sym (c .before .before .before .decode .ensures) ∙ c .before .n .given .1) in omega arith
+add-at c = let f = scalar-fits _ _ (sym (c .before .before .before .decode-wide .ensures) ∙ c .before .n .given .1) in omega arith
 
 loop-less-2 : tie.Need-loop-less-2 Inv-loop μ-loop
-loop-less-2 c = let f = scalar-fits _ _ (sym (c .before .before .before .decode .ensures) ∙ c .before .n .given .1) in omega arith
+loop-less-2 c = let f = scalar-fits _ _ (sym (c .before .before .before .decode-wide .ensures) ∙ c .before .n .given .1) in omega arith
 
 loop-again-2 : tie.Need-loop-again-2 Inv-loop μ-loop
-loop-again-2 c = sym (check-on _ _ (sym (c .before .before .before .decode .ensures) ∙ c .before .n .given .1)) ∙ c .before .before .before .before .before .before .before .loop .inv
+loop-again-2 c = sym (check-on _ _ (sym (c .before .before .before .decode-wide .ensures) ∙ c .before .n .given .1)) ∙ c .before .before .before .before .before .before .before .loop .inv
 
 returns-2 : tie.Need-returns-2 Inv-loop μ-loop
 returns-2 c = sym (check-end _ _ (c .loop-test .left)) ∙ c .before .loop .inv
@@ -69,7 +69,7 @@ check-spec =
     skip-ascii-requires
     loop-less
     loop-again
-    decode-requires
+    decode-wide-requires
     enum-known-n
     enum-told
     returns

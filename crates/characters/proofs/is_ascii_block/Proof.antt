@@ -12,10 +12,10 @@ use Rattle.characters.proofs.is_ascii_block.Statement.{statement}
 use Rattle.characters.proofs.is_ascii_block.Tie as tie
 
 abbrev Inv-loop : tie.InvT-loop
-Inv-loop text at high₀ k₀ high k = (k ≤ 32) × (high ≤ k) × (eqb high 0 ≡ every isAscii (take k (drop at text)))
+Inv-loop text at high₀ k₀ high k = (k ≤ 128) × (high ≤ k) × (eqb high 0 ≡ every isAscii (take k (drop at text)))
 
 abbrev μ-loop : tie.MeasureT-loop
-μ-loop text at high₀ k₀ high k = 32 - k
+μ-loop text at high₀ k₀ high k = 128 - k
 
 loop-holds : tie.Need-loop-holds Inv-loop μ-loop
 unfolding every
@@ -40,7 +40,7 @@ loop-again : tie.Need-loop-again Inv-loop μ-loop
 loop-again c = (omega arith, omega (arith, c .shared-slice-known .given (c .before .before .before .args .at + c .before .before .loop .k)), high-more (now (c .before .before .before .args .text)) (c .before .before .before .args .at) (c .before .before .loop .k) (c .before .before .loop .high) (omega arith) (c .before .before .loop .inv .2))
 
 returns : tie.Need-returns Inv-loop μ-loop
-returns c = let q : c .before .loop .k ≡ 32 = omega arith in rw q at (c .before .loop .inv .2)
+returns c = let q : c .before .loop .k ≡ 128 = omega arith in rw q at (c .before .loop .inv .2)
 
 pub is-ascii-block-spec : {M : Type 1} → statement M
 is-ascii-block-spec =

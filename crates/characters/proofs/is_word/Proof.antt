@@ -1,34 +1,21 @@
 -- `characters::is_word` meets its contract. Assumes nothing.
-use mathlib.Core.Bool.{or-true, or-false}
-use borrow.Author.Tests.{eq-eqb, ne-eqb}
-use Rattle.characters.specs.Classes.{isAsciiDigit, isWord}
+use mathlib.Core.Path.{sym, _∙_}
+use Rattle.characters.proofs.Ascii.{ascii-word, wide-word}
 use borrow.Author.Needs.{needs}
 use Rattle.characters.proofs.is_word.Statement.{statement}
 use Rattle.characters.proofs.is_word.Tie as tie
 
-is-alphabetic-requires : tie.Need-is-alphabetic-requires
-is-alphabetic-requires c κs = search needs
+is-ascii-word-requires : tie.Need-is-ascii-word-requires
+is-ascii-word-requires c κs = search needs
 
 returns : tie.Need-returns
-unfolding isWord isAsciiDigit
-returns c = simp (← c .before .is-alphabetic .ensures, c .if1 .taken, or-true)
+returns c = c .is-ascii-word .ensures ∙ sym (ascii-word _ (c .before .if1 .taken))
 
-is-ascii-digit-requires : tie.Need-is-ascii-digit-requires
-is-ascii-digit-requires c κs = search needs
+in-alphabetic-requires : tie.Need-in-alphabetic-requires
+in-alphabetic-requires c κs = search needs
 
 returns-2 : tie.Need-returns-2
-unfolding isWord isAsciiDigit
-returns-2 c = simp (← c .before .is-ascii-digit .ensures, c .if2 .taken, or-true)
-
-returns-3 : tie.Need-returns-3
-unfolding isWord isAsciiDigit
-returns-3 c = simp (eq-eqb _ _ (c .if3 .taken))
-
-returns-4 : tie.Need-returns-4
-unfolding isWord isAsciiDigit
-returns-4 c = simp (← c .before .before .before .before .is-alphabetic .ensures, c .before .before .before .if1 .left, ← c .before .before .is-ascii-digit .ensures, c .before .if2 .left, ne-eqb _ _ (c .if3 .left), or-false)
+returns-2 c = c .in-alphabetic .ensures ∙ sym (wide-word _ (c .before .if1 .left))
 
 pub is-word-spec : {M : Type 1} → statement M
-is-word-spec =
-    tie.close
-    (tie.spec is-alphabetic-requires returns is-ascii-digit-requires returns-2 returns-3 returns-4)
+is-word-spec = tie.close (tie.spec is-ascii-word-requires returns in-alphabetic-requires returns-2)

@@ -40,7 +40,7 @@ loop-less : tie.Need-loop-less Inv-loop μ-loop Inv-loop2 μ-loop2
 loop-less c = omega arith
 
 loop-again : tie.Need-loop-again Inv-loop μ-loop Inv-loop2 μ-loop2
-loop-again c = let r = run-part isAscii (now (c .before .before .before .before .before .args .text)) (c .before .before .before .loop .at) 32 (omega arith) (sym (c .before .is-ascii-block .ensures) ∙ not-false _ (c .if1 .left)) in (omega arith, omega arith)
+loop-again c = let r = run-part isAscii (now (c .before .before .before .before .before .args .text)) (c .before .before .before .loop .at) 128 (omega arith) (sym (c .before .is-ascii-block .ensures) ∙ not-false _ (c .if1 .left)) in (omega arith, omega arith)
 
 loop2-holds : tie.Need-loop2-holds Inv-loop μ-loop Inv-loop2 μ-loop2
 loop2-holds c = ⊎-elim (λ w. c .before .loop .inv) (λ w. c .before .loop .inv) (c .loop-test .came)
