@@ -57,12 +57,9 @@ spaces-agree = tt
 pub ascii-space : (k : ℕ) → k < 0x80 → isWhitespace k ≡ isAsciiSpace k
 ascii-space k h = agree-at isWhitespace isAsciiSpace 0x80 spaces-agree k h
 
-words-agree : T (agree isWord isAsciiWord 0x80)
-unfolding agree same isWord isAsciiWord isAlphabetic isAsciiLetter inSpans spans
-words-agree = tt
-
 pub ascii-word : (k : ℕ) → k < 0x80 → isWord k ≡ isAsciiWord k
-ascii-word k h = agree-at isWord isAsciiWord 0x80 words-agree k h
+unfolding isWord isAsciiWord
+ascii-word k h = rw (ascii-letter k h)
 
 -- above, only Alphabetic codes are in words
 pub wide-word : (k : ℕ) → 0x80 ≤ k → isWord k ≡ isAlphabetic k

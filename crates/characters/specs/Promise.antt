@@ -6,7 +6,7 @@ use mathlib.Core.Bool.{Bool, true, false, _&&_, _||_}
 use mathlib.Core.List.{List, [], _∷_, _++_}
 use lib.Dec.{leb, ltb, eqb}
 use lib.ListN.{length, getD, take, drop}
-use Rattle.basics.specs.Basics.{if_then_else_, within}
+use Rattle.basics.specs.Basics.{if_then_else_, is, within}
 use Rattle.characters.specs.Utf8.{isScalar, encode, width}
 use Rattle.characters.specs.Spans.{Span}
 use Rattle.characters.specs.Places.{charsAt, past, run}
@@ -49,7 +49,7 @@ unfoldable pub isAsciiSpace : ℕ → Bool
 isAsciiSpace c = eqb c 0x20 || within 0x09 0x0D c
 
 unfoldable pub isAsciiWord : ℕ → Bool
-isAsciiWord c = isAsciiLetter c || within 0x30 0x39 c || eqb c 0x5F || eqb c 0x2D
+isAsciiWord c = is "_" c || is "-" c || within 0x30 0x39 c || isAsciiLetter c
 
 -- ------------------------------------------------------------------ tables of spans
 
