@@ -1,7 +1,7 @@
--- ASCII bytes are passed without decoding; bytes are looked for in a set.
+-- ASCII bytes are passed without decoding.
 -- Assumes nothing.
 use mathlib.Core.Path.{_≡_, refl, sym, _∙_, ap, ap₂}
-use mathlib.Core.Bool.{Bool, true, false, _&&_, _||_, and-assoc, and-true, and-false}
+use mathlib.Core.Bool.{Bool, true, false, _&&_, and-assoc, and-true, and-false}
 use mathlib.Core.List.{List, [], _∷_}
 use Prim.Native.Nat.{ℕ, zero, suc, _+_, _-_, _/_, _≤_, _<_}
 use native.Mathlib.Nat.{add-zero, le-of-suc-le-suc, not-suc-le-zero}
@@ -11,8 +11,8 @@ use native.Mathlib.Omega.{arith}
 use lib.Dec.{eqb, ltb}
 use lib.ListN.{length, getD, take, drop, length-drop, drop-of-length-le}
 use lib.Seq.{drop-cons, drop-drop, getD-drop}
-use borrow.Author.Tests.{lt-ltb, le-ltb, eq-eqb, ne-eqb, ltb-true}
-use Rattle.basics.specs.Basics.{if_then_else_, among, every}
+use borrow.Author.Tests.{lt-ltb, le-ltb, ne-eqb, ltb-true}
+use Rattle.basics.specs.Basics.{if_then_else_, every}
 use Rattle.basics.proofs.Tests.{cases, both-true}
 use Rattle.characters.specs.Utf8.{onChar, checkFrom}
 use Rattle.characters.specs.Places.{run}
@@ -96,18 +96,3 @@ check-run at (x ∷ l) =
 
 pub check-skip : (s : List ℕ) (at : ℕ) → checkFrom 0 at (drop at s) ≡ checkFrom 0 (at + run isAscii (drop at s)) (drop (at + run isAscii (drop at s)) s)
 check-skip s at = rw (← drop-drop (run isAscii (drop at s)) at s) (check-run at (drop at s))
-
--- ------------------------------------------------------------------ a byte in a set
-
-module _ (set : List ℕ) (x i : ℕ) where
-  among-at : i < length set → among (drop i set) x ≡ (eqb x (getD set i 0) || among (drop (i + 1) set) x)
-  among-at h = rw (add-one, drop-cons set i 0)
-
-  pub among-yes : i < length set → x ≡ getD set i 0 → among (drop i set) x ≡ true
-  among-yes h e = among-at h ∙ rw (eq-eqb x (getD set i 0) e)
-
-  pub among-no : i < length set → (x ≡ getD set i 0 → ⊥) → among (drop i set) x ≡ among (drop (i + 1) set) x
-  among-no h e = among-at h ∙ rw (ne-eqb x (getD set i 0) e)
-
-  pub among-end : length set ≤ i → among (drop i set) x ≡ false
-  among-end h = rw (drop-of-length-le set h)

@@ -8,7 +8,7 @@ ghost use mathlib.Core.List.{List};
 ghost use Prim.Native.Nat.{_+_, _≤_, _<_};
 ghost use lib.Dec.{T};
 ghost use lib.ListN.{length, getD, take, drop};
-ghost use Rattle.basics.specs.Basics.{within, among, every};
+ghost use Rattle.basics.specs.Basics.{within, every};
 ghost use Rattle.characters.specs.Utf8.{leadLen, charOf, check, isScalar};
 ghost use Rattle.characters.specs.Places.{decodeAt, peekAt, run};
 ghost use Rattle.characters.specs.Spans.{Span, inSpans};
@@ -360,22 +360,32 @@ pub fn is_ascii_hexdigit(code: u32) -> bool
     is_within(0x61, 0x66, code)
 }
 
-// Whether a code is one of the bytes of a set.
-fn is_among(set: &[u8], code: u32) -> bool
-    ensures { λ r. ⌜ r ≡ among (now (set .entry)) code ⌝ }
-{
-    for i in 0..set.len() {
-        if code == set[i] as u32 {
-            return true;
-        }
-    }
-    false
-}
-
+// One of `[]()!~+*?{}<>.,|:$=`, in this order.
 pub fn is_punctuation(code: u32) -> bool
     ensures { λ r. ⌜ r ≡ isPunctuation code ⌝ }
 {
-    is_among(b"[]()!~+*?{}<>.,|:$=", code)
+    match code {
+        0x5B => true,
+        0x5D => true,
+        0x28 => true,
+        0x29 => true,
+        0x21 => true,
+        0x7E => true,
+        0x2B => true,
+        0x2A => true,
+        0x3F => true,
+        0x7B => true,
+        0x7D => true,
+        0x3C => true,
+        0x3E => true,
+        0x2E => true,
+        0x2C => true,
+        0x7C => true,
+        0x3A => true,
+        0x24 => true,
+        0x3D => true,
+        _ => false,
+    }
 }
 
 fn is_ascii_word(code: u32) -> bool
