@@ -119,8 +119,15 @@ module _ (c : ℕ) (w : isWord c ≡ true) where
   word-piece : (cs : List ℕ) → piece c cs ≡ T.token (name (c ∷ take (run isWord cs) cs)) (1 + run isWord cs)
   unfolding piece solid
   word-piece cs =
-      rw (word-space, word-not c w 0x2F slash-word, not-among c w (letters "\"'") quote-words, word-not c w 0x40 at-word,
-      not-among c w (letters "$!") opening-words, word-mark, w)
+      rw (
+        word-space,
+        word-not c w 0x2F slash-word,
+        not-among c w (letters "\"'") quote-words,
+        word-not c w 0x40 at-word,
+        not-among c w (letters "$!") opening-words,
+        word-mark,
+        w,
+      )
 
 -- white space is no word character
 pub space-word : (d : ℕ) → isEcmascriptWhitespace d ≡ true → isWord d ≡ false
@@ -199,8 +206,15 @@ mark-piece c d rest e f =
     let p₁ = both-true (not (isEcmascriptWhitespace c)) _ (plain-among (letters "[]()!~+*?{}<>.,|:$=") c all-plain e) in
     let p₂ = both-true (not (is "/" c)) _ (p₁ .1) in
     let p₃ = both-true (not (among (letters "\"'") c)) _ (p₂ .1) in
-    rw (not-true (isEcmascriptWhitespace c) (p₁ .0), not-true (is "/" c) (p₂ .0), not-true (among (letters "\"'") c) (p₃ .0), not-true (is "@" c) (p₃ .1),
-    f, and-false (among (letters "$!") c), e)
+    rw (
+      not-true (isEcmascriptWhitespace c) (p₁ .0),
+      not-true (is "/" c) (p₂ .0),
+      not-true (among (letters "\"'") c) (p₃ .0),
+      not-true (is "@" c) (p₃ .1),
+      f,
+      and-false (among (letters "$!") c),
+      e,
+    )
 
 open-space : isEcmascriptWhitespace 0x5B ≡ false
 unfolding isEcmascriptWhitespace isWhitespace whiteSpace inSpans

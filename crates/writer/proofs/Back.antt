@@ -103,8 +103,11 @@ digit d h =
         low = rw (digit-low d l) (omega arith);
       }
       | no l ↦ record {
-        value = rw (digit-high d (omega arith), within-hi 0x30 0x39 (0x41 + (d - 10)) (omega arith),
-            within-yes 0x41 0x46 (0x41 + (d - 10)) (omega arith) (omega arith)) (ap some (omega arith));
+        value = rw (
+          digit-high d (omega arith),
+          within-hi 0x30 0x39 (0x41 + (d - 10)) (omega arith),
+          within-yes 0x41 0x46 (0x41 + (d - 10)) (omega arith) (omega arith),
+        ) (ap some (omega arith));
         low = rw (digit-high d (omega arith)) (omega arith);
       }
     ]
