@@ -5,13 +5,12 @@ use mathlib.Core.Path.{_≡_, refl}
 use mathlib.Core.Bool.{Bool, true, false}
 use mathlib.Core.List.{List, [], _∷_}
 use mathlib.Core.Option.{Option, none, some}
-use Rattle.basics.specs.Basics.{every, spells}
-use Rattle.characters.specs.Classes.{isPunctuation, isWord}
 use Rattle.characters.specs.Spans.{Span}
-use Rattle.characters.specs.Utf8.{isScalar}
+use Rattle.characters.proofs.Chars.{Scalars}
 use Rattle.lexer.specs.Tokens.{Kind, Tokens, token, eof, bad}
 use Rattle.lexer.specs.Escapes.{decodeString}
 use Rattle.lexer.specs.Sets.{spans, fault, sorted}
+use Rattle.lexer.proofs.Back.{Words}
 use Rattle.writer.specs.Spelling.{spansText}
 
 -- without starts
@@ -21,12 +20,8 @@ U = Unit {0}
 -- a name: one character at least, all of them characters of names, and codes that UTF-8 writes
 pub record Word (t : List ℕ) : Type 0 where
   pub some : (t ≡ [] → ⊥)
-  pub word : every isWord t ≡ true
-  pub scalar : every isScalar t ≡ true
-
--- a text that UTF-8 writes
-pub record Scalars (t : List ℕ) : Type 0 where
-  pub scalar : every isScalar t ≡ true
+  pub words : Words t
+  pub scalars : Scalars t
 
 -- spans that, written out, are read as they are
 pub record ReadBack (ss : List Span) : Type 0 where

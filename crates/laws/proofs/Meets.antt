@@ -13,7 +13,8 @@ use Rattle.lexer.specs.Escapes.{decodeString}
 use Rattle.tree.specs.Syntax.{Identifier}
 use Rattle.parser.specs.Parser.{Answer, read, refused, Parser, andThen, _>>=_, _>>_, pure, refuse, choose, startOf, here, refuseHere, kindOf, kind, arrive, next, markIn, nameIn, atIn, stringIn, isMark, says, eatIf, eat, eatName, eatAt, must, expect, expectName, taken, expectString, parseIdentifier, size, turns, loop, separate, untilStep, until, comma, commaOrNot, nothing}
 use Rattle.laws.proofs.Lists.{clash}
-use Rattle.laws.proofs.Fine.{U, Word, Scalars, FineKind, fine-name, fine-at, fine-string, fine-set, fine-mark, Fine, fine-token, fine-eof, fine-bad}
+use Rattle.characters.proofs.Chars.{Scalars}
+use Rattle.laws.proofs.Fine.{U, Word, FineKind, fine-name, fine-at, fine-string, fine-set, fine-mark, Fine, fine-token, fine-eof, fine-bad}
 use Rattle.laws.proofs.Readable.{Every, every-none, every-more, GoodName}
 
 abbrev pub After : {A : Type 0} → (A → Tokens U → Type 0) → Answer U A → Type 0

@@ -16,7 +16,8 @@ use Rattle.parser.specs.Expressions.{parseProps, referenceOf, parseExpressionIn
 use Rattle.parser.specs.Members.{TokenMember, tokenPrecedence, tokenConflict, tokenRule, tokenLiteral, LocalMember, localPrecedence, localRule, localFallback, SkipMember, skipTopRule, skipRule, ExternalMember, externalToken, externalConflicts, Member, declaration, dialects, externalProp, detectDelim, declared, declaredDialects, declaredProp, detects}
 use Rattle.parser.specs.Declarations.{parseRule, referenceBy, parseTokenReference, parseTokenPrecedence, parseTokenConflict, parseLiteral, parseNamedNode, tokenMemberBy, parseTokenMember, parseTokens, parseLocalMember, parseLocalTokens, parseSource, parseExternalMember, parseExternalTokenSet, parseExternalTokens, parseExternalSpecializer, parseExternalPropSource, parseExternalProp, externalBy, parseExternalDeclaration, parsePrecKind, parsePrecItem, parsePrecedence, seen, parseContextDeclaration, parseSkipMember, parseSkipDeclaration, topBy, parseDirective, declarationBy, parseDeclaration, hasTop, grammarOf, parse}
 use Rattle.laws.proofs.Lists.{clash, onOption}
-use Rattle.laws.proofs.Fine.{U, Word, Scalars}
+use Rattle.characters.proofs.Chars.{Scalars}
+use Rattle.laws.proofs.Fine.{U, Word}
 use Rattle.laws.proofs.Readable.{Every, every-none, every-more, GoodName, GoodProp, blank, Item, item-name, item-special, item-inline, item-choice, item-sequence, item-empty, item-repeat, item-literal, item-set, item-any, item-class, Readable, readable-up}
 use Rattle.laws.proofs.Meets.{Meets, bind-meets, pure-meets, refuse-meets, refuseHere-meets, choose-meets, if-meets, weaken, here-meets, kind-meets, arrive-meets, next-meets, eatName-meets, eatAt-meets, expectName-meets, Given, given-none, given-some, string-given, expectString-meets, parseIdentifier-meets, Leads, loop-meets, every-one, until-meets, eat-any, expect-any, comma-or-not, nothing-meets}
 use Rattle.laws.proofs.MeetsExpressions.{Found, found-none, found-some, parseProps-meets, GoodRule, parseBraced-meets, parseRuleNamed-meets, parseInner-meets, choiceAt-meets}

@@ -24,7 +24,10 @@ use Rattle.parser.specs.Parser.{Answer, Parser, _>>=_, _>>_, pure, choose, here
 use Rattle.parser.specs.Expressions.{repeatMark, markerMark, Item as SeqItem, marker, expression, partBy, parsePart, propNamed, propBy, parseProp, parseProps, classBy, stdClassBy, setBy, parseSetExpression, literalOf, referenceOf, contentBy, inlineBy, stacked, repeatBy, parseRepeat, repeated, slots, sequenceOf, isEmptyArm, firstEmptyArm, choiceBy, choiceOf, parseBracedExpression, parseRuleNamed, parseInlineRuleExpression, parseSpecializeExpression, parseParenthesizedExpression, parseArguments, parseNamed, innerBy, parseExpressionInner, parseExpressionSuffix, itemBy, parseItem, parseExpressionSequence, parseArm, parseExpressionChoice, choiceAt}
 use Rattle.writer.specs.NormalText.{isChoice, isSequence}
 use Rattle.laws.proofs.Lists.{clash, not-true}
-use Rattle.laws.proofs.Fine.{U, Word, Scalars, ReadBack, FineKind, fine-name, fine-at, fine-string, fine-set, fine-mark}
+use Rattle.characters.proofs.Chars.{Scalars}
+use Rattle.characters.proofs.Chars as Chars
+use Rattle.lexer.proofs.Back.{Words, no-more, one-more}
+use Rattle.laws.proofs.Fine.{U, Word, ReadBack, FineKind, fine-name, fine-at, fine-string, fine-set, fine-mark}
 use Rattle.laws.proofs.Readable.{Every, every-none, every-more, GoodName, GoodPart, good-value, good-braced, GoodProp, GoodMarker, blank, soleBlank, lone, Grade, Each, each-none, each-more, Item, item-name, item-special, item-inline, item-choice, item-sequence, item-empty, item-repeat, item-literal, item-set, item-any, item-class, InSlots, in-last, in-slot, Arm, arm-sequence, arm-item, Arms, arms-none, arms-more, Level, level-choice, level-arm, Readable, readable-up}
 use Rattle.laws.proofs.Meets.{Meets, bind-meets, pure-meets, refuse-meets, refuseHere-meets, choose-meets, if-meets, weaken, here-meets, FineOption, fine-none, fine-some, kind-meets, next-meets, eat-meets, expect-meets, Given, given-none, given-some, name-given, at-given, parseIdentifier-meets, Leads, loop-meets, every-one, until-meets, eat-any, expect-any}
 
@@ -32,13 +35,18 @@ use Rattle.laws.proofs.Meets.{Meets, bind-meets, pure-meets, refuse-mee
 
 -- a dot is a text
 dot-scalar : Scalars (letters ".")
-unfolding every isScalar
-dot-scalar = record { scalar = refl }
+unfolding isScalar
+dot-scalar = Chars.one-more refl Chars.none-left
 
 -- the name of an unnamed inline rule
 anon-word : Word (letters "_anon")
-unfolding every isWord isScalar isAlphabetic inSpans alphabetic
-anon-word = record { some = λ e. let z : _≡_ {A = ℕ} 0 1 = cc in absurd (omega arith); word = refl; scalar = refl }
+unfolding isWord isScalar isAlphabetic inSpans alphabetic
+anon-word =
+    record {
+      some = λ e. let z : _≡_ {A = ℕ} 0 1 = cc in absurd (omega arith);
+      words = one-more refl (one-more refl (one-more refl (one-more refl (one-more refl no-more))));
+      scalars = Chars.one-more refl (Chars.one-more refl (Chars.one-more refl (Chars.one-more refl (Chars.one-more refl Chars.none-left))));
+    }
 
 anon-name : spells "_" (letters "_anon") ≡ false
 unfolding same
@@ -52,7 +60,7 @@ pub data Found {A : Type 0} (G : A → Type 0) : Option A → Type 0 where
 partBy-meets : (p : U) (k : Option Kind) → FineOption k → (ts : Tokens U) → Meets (partBy p k) ts (λ o us. Found GoodPart o)
 unfolding partBy
 partBy-meets p (some (Kind.string t)) (fine-some (fine-string s)) ts = bind-meets _ (next-meets ts) λ u us h. pure-meets _ us (found-some (good-value s))
-partBy-meets p (some (Kind.name t)) (fine-some (fine-name w)) ts = bind-meets _ (next-meets ts) λ u us h. pure-meets _ us (found-some (good-value (record { scalar = w .scalar })))
+partBy-meets p (some (Kind.name t)) (fine-some (fine-name w)) ts = bind-meets _ (next-meets ts) λ u us h. pure-meets _ us (found-some (good-value (w .scalars)))
 partBy-meets p (some (Kind.mark c)) f ts =
     if-meets (is "." c) (λ t. bind-meets _ (next-meets ts) λ u us h. pure-meets _ us (found-some (good-value dot-scalar)))
     (λ d. if-meets (is "{" c)

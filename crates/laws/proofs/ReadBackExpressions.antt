@@ -23,7 +23,8 @@ use Rattle.writer.specs.Spelling.{quoted, spansText}
 use Rattle.writer.specs.NormalText.{each, eachAfter, commas, bracketed, mark, identifier, propName, markerSign, specializeWord, repeatSign, className, bracketIf, partTokens, valueTokens, propTokens, propsTokens, isChoice, isSequence, markerTokens, expressionTokens, argumentsTokens, moreArguments, armsTokens, moreArms, slotsTokens, bodyTokens, ruleTokens}
 use Rattle.writer.proofs.Back.{decode-back}
 use Rattle.laws.proofs.Lists.{clash, not-true, append-none, append-one}
-use Rattle.laws.proofs.Fine.{U, Word, Scalars, ReadBack}
+use Rattle.characters.proofs.Chars.{Scalars}
+use Rattle.laws.proofs.Fine.{U, Word, ReadBack}
 use Rattle.laws.proofs.Readable.{Every, every-none, every-more, GoodName, GoodPart, good-value, good-braced, GoodProp, GoodMarker, blank, soleBlank, lone, Grade, Each, each-none, each-more, Item, item-name, item-special, item-inline, item-choice, item-sequence, item-empty, item-repeat, item-literal, item-set, item-any, item-class, InSlots, in-last, in-slot, Arm, arm-sequence, arm-item, Arms, arms-none, arms-more, Level, level-choice, level-arm, Readable, readable-up}
 use Rattle.laws.proofs.MeetsExpressions.{GoodRule}
 use Rattle.laws.proofs.ReadBack.{laid, Reads, bind-reads, pure-reads, choose-true, choose-false, here-reads, kind-reads, next-reads, eat-yes, eat-no, expect-reads, parseIdentifier-reads, Back, over, turn, loop-reads, Between, at-comma, at-close, commas-reads, comma-reads}

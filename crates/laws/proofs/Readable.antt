@@ -11,7 +11,8 @@ use Rattle.tree.specs.Syntax.{Identifier, PropPart, value, Prop, ConflictMarker
 use Rattle.parser.specs.Limits.{repeats}
 use Rattle.parser.specs.Expressions.{stacked, isEmptyArm}
 use Rattle.writer.specs.NormalText.{isChoice, isSequence}
-use Rattle.laws.proofs.Fine.{U, Word, Scalars, ReadBack}
+use Rattle.characters.proofs.Chars.{Scalars}
+use Rattle.laws.proofs.Fine.{U, Word, ReadBack}
 
 pub data Every {A : Type 0} (G : A → Type 0) : List A → Type 0 where
   every-none : Every G []
