@@ -4,6 +4,7 @@ pub mod AlikeExpressions
 pub mod AlikeDeclarations
 pub mod Fine
 pub mod Readable
+pub mod FineTokens
 pub mod Meets
 pub mod MeetsExpressions
 pub mod Good
@@ -14,3 +15,4 @@ pub mod ReadBackExpressions
 pub mod Appends
 pub mod ReadBackDeclarations
 pub mod ReadBackGrammar
+pub mod Flat

@@ -330,7 +330,7 @@ braced-fine (c ∷ cs) = by (is "{" c && not (is "}" (head cs)))
     by false = tt
 
 -- what a letter and the characters after it stand for: no more bytes than they have themselves
-record Short (e : ℕ) (cs : List ℕ) (x : Escape) : Type 0 where
+pub record Short (e : ℕ) (cs : List ℕ) (x : Escape) : Type 0 where
   pub scalar : IsScalar (x .char)
   pub size : (width (x .char) ≤ width e) ⊎ ((2 ≤ x .taken) × (x .taken ≤ length cs))
 
@@ -361,7 +361,7 @@ control-short e cs h =
     (λ _. if-cases P (is "0" e) (λ _. small 0x00 (omega arith))
     (λ _. itself-short e cs h))))))
 
-escape-short : (e : ℕ) (cs : List ℕ) → IsScalar e → Short e cs (escape e cs)
+pub escape-short : (e : ℕ) (cs : List ℕ) → IsScalar e → Short e cs (escape e cs)
 unfolding escape
 escape-short e cs h =
     if-cases (Short e cs) (among (letters "uU") e) (λ _. or-short e cs (braced cs) (fixed 4 0 cs) h (braced-fine cs) (fixed-fine 4 0 cs))
