@@ -16,3 +16,5 @@ pub mod Appends
 pub mod ReadBackDeclarations
 pub mod ReadBackGrammar
 pub mod Flat
+pub mod Decode
+pub mod DecodeBack

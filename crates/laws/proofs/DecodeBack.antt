@@ -1,0 +1,324 @@
+-- The records of a good grammar, taken back, are that grammar.
+-- Assumes nothing.
+use Prim.Native.Nat.{ℕ, zero, suc}
+use borrow.Author.Tests.{ne-eqb}
+use mathlib.Core.Path.{_≡_, refl, ap, sym, _∙_}
+use mathlib.Core.Bool.{Bool, true, false, _||_, not}
+use mathlib.Core.List.{List, [], _∷_, _++_, map}
+use mathlib.Core.Option.{Option, none, some}
+use lib.Dec.{eqb}
+use Rattle.basics.specs.Basics.{if_then_else_, keepIf, firstOf}
+use Rattle.characters.specs.Spans.{Span}
+use Rattle.characters.specs.Utf8.{codes, encodeAll}
+use Rattle.characters.proofs.Chars.{Scalars, codes-all}
+use Rattle.tree.specs.CharClasses.{classValue}
+use Rattle.tree.specs.Records.{Row, Branch, branch, Branches, []ᴮ, _∷ᴮ_}
+use Rattle.tree.specs.OneTree.{isExpression, kindOf}
+use Rattle.tree.specs.Stored.{named, each, flag, partBranch, propBranch, markerNumber, markerBranch, spanBranch, specializeValue, repeatValue, expressionBranch, expressionBranches, slotBranches, nameBranch, sourceBranch, ruleBranch, referenceBranch, tokenPrecBranch, tokenConflictBranch, literalBranch, namedNodeBranch, fallbackBranches, precValue, precItemBranch, declarationBranch, externalPropBranch, grammarBranch}
+use Rattle.tree.specs.Syntax.{Identifier, PropPart, value, Prop, ConflictMarker, ConflictMarkerKind, ambiguity, precedence, SpecializeKind, extend, specialize, RepeatKind, optional, zeroOrMore, oneOrMore, CharClass, asciiLetter, asciiLowercase, asciiUppercase, digit, whitespace, eof, Expression, special, inline, choice, sequence, empty, repeat, set, any, class, Expressions, []ᴱ, _∷ᴱ_, Slots, last, slot, expressions, RuleDeclaration, TokenReference, referred, TokenPrecDeclaration, TokenConflictDeclaration, LiteralDeclaration, NamedNode, ExternalPropDeclaration, PrecKind, left, right, cut, PrecItem, Declaration, topRule, rule, tokens, localTokens, context, externalTokens, externalSpecializer, externalPropSource, precedences, mainSkip, scopedSkip, GrammarDeclaration, startOf}
+use Rattle.parser.specs.Limits.{levels}
+use Rattle.parser.specs.Expressions.{referenceOf}
+use Rattle.laws.specs.Starts.{onIdentifier, onPart, onProp, onMarker, onExpression, onExpressions, onSlots, onRule, onReference, onTokenPrec, onTokenConflict, onLiteral, onNamedNode, onFallback, onPrecItem, onExternalProp, onDeclaration, onGrammar}
+use Rattle.laws.proofs.Lists.{clash, append-none, append-one}
+use Rattle.laws.proofs.Fine.{U, Word}
+use Rattle.laws.proofs.Readable.{Every, every-none, every-more, GoodName, GoodPart, good-value, good-braced, GoodProp, GoodMarker, Grade, Each, each-none, each-more, Item, item-name, item-special, item-inline, item-choice, item-sequence, item-empty, item-repeat, item-literal, item-set, item-any, item-class, InSlots, in-last, in-slot, Arm, arm-sequence, arm-item, Arms, arms-none, arms-more, Level, level-choice, level-arm, Readable}
+use Rattle.laws.proofs.MeetsExpressions.{Found, found-none, found-some, GoodRule}
+use Rattle.laws.proofs.Good.{Outer, GoodReference, GoodTokenPrec, GoodTokenConflict, GoodLiteral, GoodNode, GoodPrecItem, GoodExternalProp, GoodDeclaration, good-top, good-rule, good-tokens, good-local, good-context, good-external, good-specializer, good-prop-source, good-precedences, good-skip, good-scoped, GoodGrammar}
+use Rattle.laws.proofs.Decode.{pick, partIn, allIn, propIn, spanIn, markerIn, first, second, expressionBy, expressionIn, expressionsIn, slotsIn, nameIn, sourceIn, ruleIn, referenceIn, tokenPrecIn, tokenConflictIn, literalIn, nodeIn, precItemIn, declarationIn, externalPropIn, declarationsIn, grammarIn}
+
+abbrev zeroed : U → ℕ
+zeroed u = 0
+
+-- ------------------------------------------------------------------ lists of branches
+
+module _ {X Y : Type 0} (z : X → Y) (g : Y → Branch) where
+  all-back : {A : X → Type 0} (f : Branch → X) → ((x : X) → A x → f (g (z x)) ≡ x) → {xs : List X} → Every A xs → allIn f (each g (map z xs) []ᴮ) ≡ xs
+  unfolding allIn each
+  all-back f e every-none = refl
+  all-back f e (every-more {x} {xs} a q) = rw (e x a, all-back f e q)
+
+  pick-same : {A : X → Type 0} (k : ℕ) (f : Branch → X) → ((x : X) → eqb (kindOf (g (z x))) k ≡ true) → ((x : X) → A x → f (g (z x)) ≡ x) → {xs : List X} → Every A xs → (bs : Branches)
+      → pick k f (each g (map z xs) bs) ≡ xs ++ pick k f bs
+  unfolding pick each
+  pick-same k f h e every-none bs = refl
+  pick-same k f h e (every-more {x} {xs} a q) bs = rw (h x, e x a, pick-same k f h e q bs)
+
+module _ {Y : Type 0} (g : Y → Branch) where
+  pick-other : {A : Type 0} (k : ℕ) (f : Branch → A) → ((y : Y) → eqb (kindOf (g y)) k ≡ false) → (ys : List Y) (bs : Branches) → pick k f (each g ys bs) ≡ pick k f bs
+  unfolding pick each
+  pick-other k f h [] bs = refl
+  pick-other k f h (y ∷ ys) bs = rw (h y) (pick-other k f h ys bs)
+
+  expressions-skip : ((y : Y) → isExpression (kindOf (g y)) ≡ false) → (ys : List Y) (bs : Branches) → expressionsIn (each g ys bs) ≡ expressionsIn bs
+  unfolding expressionIn each
+  expressions-skip h [] bs = refl
+  expressions-skip h (y ∷ ys) bs = rw (h y) (expressions-skip h ys bs)
+
+-- ------------------------------------------------------------------ props and markers
+
+part-back : (x : PropPart U) → GoodPart x → partIn (partBranch (onPart zeroed x)) ≡ x
+unfolding partIn
+part-back (value p t) (good-value s) = ap (value tt) (codes-all s)
+part-back (PropPart.name p t) (good-braced w) = ap (PropPart.name tt) (codes-all (w .scalars))
+
+flag-back : (b : Bool) → eqb (flag b) 1 ≡ b
+flag-back true = refl
+flag-back false = refl
+
+prop-back : (x : Prop U) → GoodProp x → propIn (propBranch (onProp zeroed x)) ≡ x
+unfolding propIn
+prop-back x g = rw (flag-back (x .at), codes-all (g .word .scalars), all-back (onPart zeroed) partBranch partIn part-back (g .parts))
+
+marker-kind : (k : ConflictMarkerKind) → (if eqb (markerNumber k) 41 then ambiguity else precedence) ≡ k
+marker-kind ambiguity = refl
+marker-kind precedence = refl
+
+marker-back : (m : ConflictMarker U) → GoodMarker m → markerIn (markerBranch (onMarker zeroed m)) ≡ m
+unfolding markerIn
+marker-back m g = rw (codes-all (g .word .scalars), marker-kind (m .kind))
+
+marker-plain : (m : ConflictMarker ℕ) → isExpression (kindOf (markerBranch m)) ≡ false
+marker-plain m = go (m .kind)
+  where
+    go : (k : ConflictMarkerKind) → isExpression (markerNumber k) ≡ false
+    go ambiguity = refl
+    go precedence = refl
+
+span-back : (p : ℕ) (s : Span) → spanIn (spanBranch p s) ≡ s
+unfolding spanIn
+span-back p s = refl
+
+spans-back : (p : ℕ) (ss : List Span) → allIn spanIn (each (spanBranch p) ss []ᴮ) ≡ ss
+unfolding allIn each spanIn
+spans-back p [] = refl
+spans-back p (s ∷ ss) = ap (λ l. s ∷ l) (spans-back p ss)
+
+-- ------------------------------------------------------------------ expressions
+
+abbrev Z : Expression U → Expression ℕ
+Z e = onExpression zeroed e
+
+expression-kind : (e : Expression ℕ) → isExpression (kindOf (expressionBranch e)) ≡ true
+unfolding expressionBranch
+expression-kind (Expression.name p t es) = refl
+expression-kind (special p k ps e f) = refl
+expression-kind (inline p t ps e) = refl
+expression-kind (choice p es) = refl
+expression-kind (sequence p s) = refl
+expression-kind (empty p) = refl
+expression-kind (repeat p k e) = refl
+expression-kind (Expression.literal p t) = refl
+expression-kind (set p i ss) = refl
+expression-kind (any p) = refl
+expression-kind (class p c) = refl
+
+-- an expression that stands first
+expression-first : (e : Expression ℕ) (bs : Branches) → expressionsIn (expressionBranch e ∷ᴮ bs) ≡ expressionIn (expressionBranch e) ∷ expressionsIn bs
+unfolding expressionIn
+expression-first e bs = rw (expression-kind e)
+
+pick-expression : {A : Type 0} (k : ℕ) (f : Branch → A) → isExpression k ≡ false → (e : Expression ℕ) (bs : Branches) → pick k f (expressionBranch e ∷ᴮ bs) ≡ pick k f bs
+unfolding pick
+pick-expression k f h e bs = rw (ne-eqb (kindOf (expressionBranch e)) k (λ q. clash (isExpression k) (ap isExpression (sym q) ∙ expression-kind e) h))
+
+specialize-back : (k : SpecializeKind) → (if eqb (specializeValue k) 1 then extend else specialize) ≡ k
+specialize-back extend = refl
+specialize-back specialize = refl
+
+module _ (R : Grade) (back : (e : Expression U) → R e → expressionIn (expressionBranch (Z e)) ≡ e) where
+  each-back : {es : Expressions U} → Each R es → expressions (expressionsIn (expressionBranches (onExpressions zeroed es))) ≡ es
+  unfolding expressionBranch onExpression expressionIn expressions
+  each-back each-none = refl
+  each-back (each-more {e} {es} r q) = rw (expression-kind (Z e), back e r, each-back q)
+
+  -- props, and then one expression, or two
+  props-one : (ps : List (Prop U)) → Every GoodProp ps → (e : Expression ℕ) (bs : Branches) → pick 5 propIn bs ≡ [] → pick 5 propIn (each propBranch (map (onProp zeroed) ps) (expressionBranch e ∷ᴮ bs)) ≡ ps
+  props-one ps g e bs h = pick-same (onProp zeroed) propBranch 5 propIn (λ x. refl) prop-back g (expressionBranch e ∷ᴮ bs) ∙ rw (pick-expression 5 propIn refl e bs, h, append-none ps)
+
+  props-then : (ps : List (Prop U)) (e : Expression ℕ) (bs : Branches) → expressionsIn (each propBranch (map (onProp zeroed) ps) (expressionBranch e ∷ᴮ bs)) ≡ expressionIn (expressionBranch e) ∷ expressionsIn bs
+  props-then ps e bs = expressions-skip propBranch (λ x. refl) (map (onProp zeroed) ps) (expressionBranch e ∷ᴮ bs) ∙ expression-first e bs
+
+  name-back : (t : List ℕ) (es : Expressions U) → Word t → Each R es → expressionIn (expressionBranch (Z (Expression.name tt t es))) ≡ Expression.name tt t es
+  unfolding expressionBranch onExpression expressionIn expressionBy
+  name-back t es w q = rw (codes-all (w .scalars), each-back q)
+
+  special-back : (k : SpecializeKind) (ps : List (Prop U)) (e f : Expression U) → Every GoodProp ps → expressionIn (expressionBranch (Z e)) ≡ e → expressionIn (expressionBranch (Z f)) ≡ f
+      → expressionIn (expressionBranch (Z (special tt k ps e f))) ≡ special tt k ps e f
+  unfolding expressionBranch onExpression expressionIn expressionBy pick
+  special-back k ps e f g b c =
+      rw (specialize-back k, props-one ps g (Z e) (expressionBranch (Z f) ∷ᴮ []ᴮ) (pick-expression 5 propIn refl (Z f) []ᴮ), props-then ps (Z e) (expressionBranch (Z f) ∷ᴮ []ᴮ), expression-first (Z f) []ᴮ, b, c)
+
+  inline-back : (t : List ℕ) (ps : List (Prop U)) (e : Expression U) → Word t → Every GoodProp ps → expressionIn (expressionBranch (Z e)) ≡ e → expressionIn (expressionBranch (Z (inline tt t ps e))) ≡ inline tt t ps e
+  unfolding expressionBranch onExpression expressionIn expressionBy pick
+  inline-back t ps e w g b = rw (codes-all (w .scalars), props-one ps g (Z e) []ᴮ refl, props-then ps (Z e) []ᴮ, b)
+
+  empty-back : expressionIn (expressionBranch (Z (empty tt))) ≡ empty tt
+  unfolding expressionBranch onExpression expressionIn expressionBy
+  empty-back = refl
+
+  repeat-back : (k : RepeatKind) (e : Expression U) → expressionIn (expressionBranch (Z e)) ≡ e → expressionIn (expressionBranch (Z (repeat tt k e))) ≡ repeat tt k e
+  unfolding expressionBranch onExpression expressionIn expressionBy
+  repeat-back optional e b = rw (expression-first (Z e) []ᴮ, b)
+  repeat-back zeroOrMore e b = rw (expression-first (Z e) []ᴮ, b)
+  repeat-back oneOrMore e b = rw (expression-first (Z e) []ᴮ, b)
+
+  literal-back : (t : List ℕ) → Scalars t → expressionIn (expressionBranch (Z (Expression.literal tt t))) ≡ Expression.literal tt t
+  unfolding expressionBranch onExpression expressionIn expressionBy
+  literal-back t s = ap (Expression.literal tt) (codes-all s)
+
+  set-back : (i : Bool) (ss : List Span) → expressionIn (expressionBranch (Z (set tt i ss))) ≡ set tt i ss
+  unfolding expressionBranch onExpression expressionIn expressionBy
+  set-back i ss = rw (flag-back i, spans-back 0 ss)
+
+  any-back : expressionIn (expressionBranch (Z (any tt))) ≡ any tt
+  unfolding expressionBranch onExpression expressionIn expressionBy
+  any-back = refl
+
+  class-back : (c : CharClass) → expressionIn (expressionBranch (Z (class tt c))) ≡ class tt c
+  unfolding expressionBranch onExpression expressionIn expressionBy
+  class-back asciiLetter = refl
+  class-back asciiLowercase = refl
+  class-back asciiUppercase = refl
+  class-back digit = refl
+  class-back whitespace = refl
+  class-back eof = refl
+
+  item-back : {e : Expression U} → Item R e → expressionIn (expressionBranch (Z e)) ≡ e
+  item-back (item-name {p} {t} {es} w n q b) = name-back t es w q
+  item-back (item-special {p} {k} {ps} {e} {f} g r q) = special-back k ps e f g (back e r) (back f q)
+  item-back (item-inline {p} {t} {ps} {e} w n g r) = inline-back t ps e w g (back e r)
+  item-back (item-choice r) = back _ r
+  item-back (item-sequence r b) = back _ r
+  item-back item-empty = empty-back
+  item-back (item-repeat {p} {k} {e} i h) = repeat-back k e (item-back i)
+  item-back (item-literal {p} {c} {cs} s) = literal-back (c ∷ cs) s
+  item-back (item-set {p} {i} {ss} g) = set-back i ss
+  item-back item-any = any-back
+  item-back (item-class {p} {c}) = class-back c
+
+  markers-in : (ms : List (ConflictMarker U)) {ns : List (ConflictMarker U)} → Every GoodMarker ns → (bs : Branches) → slotsIn ms (each markerBranch (map (onMarker zeroed) ns) bs) ≡ slotsIn (ms ++ ns) bs
+  unfolding expressionIn each
+  markers-in ms every-none bs = rw (append-none ms)
+  markers-in ms (every-more {x = n} {xs = ns} g q) bs = rw (marker-plain (onMarker zeroed n), marker-back n g, markers-in (ms ++ n ∷ []) q bs, append-one ms n ns)
+
+  slots-back : {s : Slots U} → InSlots R s → slotsIn [] (slotBranches (onSlots zeroed s)) ≡ s
+  unfolding expressionBranch onExpression expressionIn
+  slots-back (in-last g) = markers-in [] g []ᴮ
+  slots-back (in-slot {ms} {e} {s} g i q) = markers-in [] g (expressionBranch (Z e) ∷ᴮ slotBranches (onSlots zeroed s)) ∙ rw (expression-kind (Z e), item-back i, slots-back q)
+
+  sequence-back : {s : Slots U} → InSlots R s → expressionIn (expressionBranch (Z (sequence tt s))) ≡ sequence tt s
+  unfolding expressionBranch onExpression expressionIn expressionBy
+  sequence-back q = ap (sequence tt) (slots-back q)
+
+  arm-back : {e : Expression U} → Arm R e → expressionIn (expressionBranch (Z e)) ≡ e
+  arm-back (arm-sequence q l) = sequence-back q
+  arm-back (arm-item i h) = item-back i
+
+  arms-back : {es : Expressions U} → Arms R es → expressions (expressionsIn (expressionBranches (onExpressions zeroed es))) ≡ es
+  unfolding expressionBranch onExpression expressionIn expressions
+  arms-back arms-none = refl
+  arms-back (arms-more {e} {es} a h q) = rw (expression-kind (Z e), arm-back a, arms-back q)
+
+  choice-back : (es : Expressions U) → Arms R es → expressionIn (expressionBranch (Z (choice tt es))) ≡ choice tt es
+  unfolding expressionBranch onExpression expressionIn expressionBy
+  choice-back es q = ap (choice tt) (arms-back q)
+
+  level-back : {e : Expression U} → Level R e → expressionIn (expressionBranch (Z e)) ≡ e
+  level-back (level-choice q) = choice-back _ q
+  level-back (level-arm a h) = arm-back a
+
+expression-back : (l : ℕ) (e : Expression U) → Readable l e → expressionIn (expressionBranch (Z e)) ≡ e
+expression-back zero e r = absurd r
+expression-back (suc l) e r = level-back (Readable l) (expression-back l) r
+
+-- ------------------------------------------------------------------ rules and members of blocks
+
+name-back : (k : ℕ) (n : Identifier U) → GoodName n → nameIn (nameBranch k (onIdentifier zeroed n)) ≡ n
+unfolding nameIn
+name-back k n g = rw (codes-all (g .word .scalars))
+
+rule-back : (k : ℕ) (r : RuleDeclaration U) → GoodRule Outer r → ruleIn (ruleBranch k (onRule zeroed r)) ≡ r
+unfolding ruleIn pick
+rule-back k r g =
+    let ps = map (onProp zeroed) (r .props) in
+    let xs = map (onIdentifier zeroed) (r .params) in
+    let e = Z (r .expression) in
+    rw (
+      codes-all (g .word .scalars),
+      pick-same (onProp zeroed) propBranch 5 propIn (λ x. refl) prop-back (g .props) (each (nameBranch 4) xs (expressionBranch e ∷ᴮ []ᴮ)),
+      pick-other (nameBranch 4) 5 propIn (λ x. refl) xs (expressionBranch e ∷ᴮ []ᴮ),
+      pick-expression 5 propIn refl e []ᴮ,
+      pick-other propBranch 4 nameIn (λ x. refl) ps (each (nameBranch 4) xs (expressionBranch e ∷ᴮ []ᴮ)),
+      pick-same (onIdentifier zeroed) (nameBranch 4) 4 nameIn (λ x. refl) (name-back 4) (g .params) (expressionBranch e ∷ᴮ []ᴮ),
+      pick-expression 4 nameIn refl e []ᴮ,
+      expressions-skip propBranch (λ x. refl) ps (each (nameBranch 4) xs (expressionBranch e ∷ᴮ []ᴮ)),
+      expressions-skip (nameBranch 4) (λ x. refl) xs (expressionBranch e ∷ᴮ []ᴮ),
+      expression-first e []ᴮ,
+      expression-back levels (r .expression) (g .body),
+      append-none (r .props),
+      append-none (r .params),
+    )
+
+referred-zeroed : (r : TokenReference U) → referred (onReference zeroed r) ≡ Z (referred r)
+unfolding onReference onExpression
+referred-zeroed (TokenReference.name p t es) = refl
+referred-zeroed (TokenReference.literal p t) = refl
+
+reference-in : (r : TokenReference U) → referenceIn (referred r) ≡ r
+unfolding referenceIn referenceOf
+reference-in (TokenReference.name p t es) = refl
+reference-in (TokenReference.literal p t) = refl
+
+reference-item : (r : TokenReference U) → GoodReference r → expressionIn (expressionBranch (Z (referred r))) ≡ referred r
+reference-item r g = item-back Outer (expression-back levels) (g .item)
+
+none-in : expressionsIn []ᴮ ≡ []
+unfolding expressionIn
+none-in = refl
+
+references-back : {rs : List (TokenReference U)} → Every GoodReference rs → map referenceIn (expressionsIn (each referenceBranch (map (onReference zeroed) rs) []ᴮ)) ≡ rs
+unfolding each
+references-back every-none = ap (map referenceIn) none-in
+references-back (every-more {x = r} {xs = rs} g q) =
+    rw (referred-zeroed r, expression-first (Z (referred r)) (each referenceBranch (map (onReference zeroed) rs) []ᴮ), reference-item r g, reference-in r, references-back q)
+
+precedence-back : (x : TokenPrecDeclaration U) → GoodTokenPrec x → tokenPrecIn (tokenPrecBranch (onTokenPrec zeroed x)) ≡ x
+unfolding tokenPrecIn
+precedence-back x g = rw (references-back (g .items))
+
+conflict-back : (x : TokenConflictDeclaration U) → GoodTokenConflict x → tokenConflictIn (tokenConflictBranch (onTokenConflict zeroed x)) ≡ x
+unfolding tokenConflictIn
+conflict-back x g =
+    rw (referred-zeroed (x .left), referred-zeroed (x .right), expression-first (Z (referred (x .left))) (expressionBranch (Z (referred (x .right))) ∷ᴮ []ᴮ), expression-first (Z (referred (x .right))) []ᴮ,
+      reference-item (x .left) (g .left), reference-item (x .right) (g .right), reference-in (x .left), reference-in (x .right))
+
+props-only : {ps : List (Prop U)} → Every GoodProp ps → pick 5 propIn (each propBranch (map (onProp zeroed) ps) []ᴮ) ≡ ps
+unfolding pick
+props-only {ps} g = pick-same (onProp zeroed) propBranch 5 propIn (λ x. refl) prop-back g []ᴮ ∙ append-none ps
+
+literal-text : (x : LiteralDeclaration U) → GoodLiteral x → literalIn (literalBranch (onLiteral zeroed x)) ≡ x
+unfolding literalIn
+literal-text x g = rw (codes-all (g .text), props-only (g .props))
+
+node-back : (x : NamedNode U) → GoodNode x → nodeIn (namedNodeBranch (onNamedNode zeroed x)) ≡ x
+unfolding nodeIn
+node-back x g = rw (codes-all (g .name .word .scalars), props-only (g .props))
+
+prec-value : (k : Option PrecKind) → (if eqb (precValue k) 0 then none else if eqb (precValue k) 1 then some left else if eqb (precValue k) 2 then some right else some cut) ≡ k
+prec-value none = refl
+prec-value (some left) = refl
+prec-value (some right) = refl
+prec-value (some cut) = refl
+
+prec-item-back : (x : PrecItem U) → GoodPrecItem x → precItemIn (precItemBranch (onPrecItem zeroed x)) ≡ x
+unfolding precItemIn
+prec-item-back x g = rw (codes-all (g .name .word .scalars), prec-value (x .kind))
+
+source-first : (s : List ℕ) → Scalars s → (bs : Branches) → pick 15 sourceIn (sourceBranch s ∷ᴮ bs) ≡ s ∷ pick 15 sourceIn bs
+unfolding pick sourceIn
+source-first s h bs = ap (λ t. t ∷ pick 15 sourceIn bs) (codes-all h)
+
+fallback-back : {o : Option (NamedNode U)} → Found GoodNode o → firstOf (pick 13 nodeIn (fallbackBranches (onFallback zeroed o))) ≡ o
+unfolding pick
+fallback-back found-none = refl
+fallback-back (found-some {x} g) = ap some (node-back x g)
