@@ -1,4 +1,11 @@
 // Holds the proved functions of crates/characters against Rust's own, and measures both. Any difference is printed and fails the run.
+mod error;
+mod node;
+mod parse;
+
+// parse.rs asks for it at the crate's root.
+pub use error::GeneratorError;
+use parse::held;
 use std::hint::black_box;
 use std::time::Instant;
 
@@ -6,6 +13,8 @@ use std::time::Instant;
 unsafe extern "C" {
     fn characters_check(text: &[u8]) -> usize;
     fn characters_scan_word(text: &[u8], from: usize) -> usize;
+    fn error_line(text: &[u8], place: usize) -> usize;
+    fn error_column(text: &[u8], place: usize) -> usize;
     fn characters_put(out: &mut [u8], at: usize, code: u32) -> usize;
     fn characters_is_scalar(code: u32) -> bool;
     fn characters_is_alphabetic(code: u32) -> bool;
@@ -18,34 +27,6 @@ unsafe extern "C" {
     fn characters_is_line_terminator(code: u32) -> bool;
 }
 
-// The functions of the Rust's parse.rs.
-fn is_punctuation(c: char) -> bool {
-    "[]()!~+*?{}<>.,|:$=".contains(c)
-}
-
-fn is_word(c: char) -> bool {
-    c == '_' || c == '-' || c.is_alphabetic() || c.is_ascii_digit()
-}
-
-fn is_ecmascript_whitespace(c: char) -> bool {
-    (c.is_whitespace() && c != '\u{0085}') || c == '\u{feff}'
-}
-
-fn is_line_terminator(c: char) -> bool {
-    matches!(c, '\n' | '\r' | '\u{2028}' | '\u{2029}')
-}
-
-fn scan_while(source: &str, mut cursor: usize, predicate: impl Fn(char) -> bool) -> usize {
-    while cursor < source.len() {
-        let c = source[cursor..].chars().next().expect("cursor precedes source end");
-        if !predicate(c) {
-            break;
-        }
-        cursor += c.len_utf8();
-    }
-    cursor
-}
-
 struct Tally {
     what: &'static str,
     held: u64,
@@ -54,21 +35,39 @@ struct Tally {
 
 impl Tally {
     fn new(what: &'static str) -> Self {
-        Tally { what, held: 0, differ: 0 }
+        Tally {
+            what,
+            held: 0,
+            differ: 0,
+        }
     }
 
-    fn same<T: PartialEq + std::fmt::Debug>(&mut self, ours: T, theirs: T, on: impl FnOnce() -> String) {
+    fn same<T: PartialEq + std::fmt::Debug>(
+        &mut self,
+        ours: T,
+        theirs: T,
+        on: impl FnOnce() -> String,
+    ) {
         self.held += 1;
         if ours != theirs {
             self.differ += 1;
             if self.differ <= 5 {
-                println!("{}: {} gives {:?}, Rust {:?}", self.what, on(), ours, theirs);
+                println!(
+                    "{}: {} gives {:?}, Rust {:?}",
+                    self.what,
+                    on(),
+                    ours,
+                    theirs
+                );
             }
         }
     }
 
     fn done(self) -> u64 {
-        println!("{:<26} {:>9} held against Rust, {} differ", self.what, self.held, self.differ);
+        println!(
+            "{:<26} {:>9} held against Rust, {} differ",
+            self.what, self.held, self.differ
+        );
         self.differ
     }
 }
@@ -105,7 +104,10 @@ impl Random {
             let at = self.below(text.len());
             match self.below(4) {
                 0 => text[at] = self.below(256) as u8,
-                1 => text[at] = [0x80, 0xBF, 0xC0, 0xC1, 0xE0, 0xED, 0xF0, 0xF4, 0xF5, 0xFF][self.below(10)],
+                1 => {
+                    text[at] =
+                        [0x80, 0xBF, 0xC0, 0xC1, 0xE0, 0xED, 0xF0, 0xF4, 0xF5, 0xFF][self.below(10)]
+                }
                 2 => drop(text.remove(at)),
                 _ if text.len() < 64 => text.insert(at, text[at]),
                 _ => {}
@@ -120,29 +122,65 @@ fn valid_upto(text: &[u8]) -> usize {
 }
 
 fn classes() -> u64 {
-    type Class = (&'static str, unsafe extern "C" fn(u32) -> bool, fn(char) -> bool);
+    type Class = (
+        &'static str,
+        unsafe extern "C" fn(u32) -> bool,
+        fn(char) -> bool,
+    );
     let all: [Class; 8] = [
-        ("is_alphabetic", characters_is_alphabetic, char::is_alphabetic),
-        ("is_whitespace", characters_is_whitespace, char::is_whitespace),
-        ("is_ascii_digit", characters_is_ascii_digit, |c| c.is_ascii_digit()),
-        ("is_ascii_hexdigit", characters_is_ascii_hexdigit, |c| c.is_ascii_hexdigit()),
-        ("is_punctuation", characters_is_punctuation, is_punctuation),
-        ("is_word", characters_is_word, is_word),
-        ("is_ecmascript_whitespace", characters_is_ecmascript_whitespace, is_ecmascript_whitespace),
-        ("is_line_terminator", characters_is_line_terminator, is_line_terminator),
+        (
+            "is_alphabetic",
+            characters_is_alphabetic,
+            char::is_alphabetic,
+        ),
+        (
+            "is_whitespace",
+            characters_is_whitespace,
+            char::is_whitespace,
+        ),
+        ("is_ascii_digit", characters_is_ascii_digit, |c| {
+            c.is_ascii_digit()
+        }),
+        ("is_ascii_hexdigit", characters_is_ascii_hexdigit, |c| {
+            c.is_ascii_hexdigit()
+        }),
+        (
+            "is_punctuation",
+            characters_is_punctuation,
+            held::is_punctuation,
+        ),
+        ("is_word", characters_is_word, held::is_word),
+        (
+            "is_ecmascript_whitespace",
+            characters_is_ecmascript_whitespace,
+            held::is_ecmascript_whitespace,
+        ),
+        (
+            "is_line_terminator",
+            characters_is_line_terminator,
+            held::is_line_terminator,
+        ),
     ];
     let mut differ = 0;
     for (what, ours, theirs) in all {
         let mut tally = Tally::new(what);
         // A surrogate is no char; it lies in no class.
         for code in 0..0x11_0000 {
-            tally.same(unsafe { ours(code) }, char::from_u32(code).is_some_and(theirs), || format!("{code:#X}"));
+            tally.same(
+                unsafe { ours(code) },
+                char::from_u32(code).is_some_and(theirs),
+                || format!("{code:#X}"),
+            );
         }
         differ += tally.done();
     }
     let mut tally = Tally::new("is_scalar");
     for code in 0..0x11_0100 {
-        tally.same(unsafe { characters_is_scalar(code) }, char::from_u32(code).is_some(), || format!("{code:#X}"));
+        tally.same(
+            unsafe { characters_is_scalar(code) },
+            char::from_u32(code).is_some(),
+            || format!("{code:#X}"),
+        );
     }
     differ + tally.done()
 }
@@ -159,7 +197,9 @@ fn encoded() -> u64 {
         if at + bytes.len() <= theirs.len() {
             theirs[at..at + bytes.len()].copy_from_slice(bytes);
         }
-        tally.same((n, ours), (bytes.len(), theirs), || format!("{code:#X} at {at}"));
+        tally.same((n, ours), (bytes.len(), theirs), || {
+            format!("{code:#X} at {at}")
+        });
     }
     tally.done()
 }
@@ -169,11 +209,19 @@ fn checked() -> u64 {
     let mut words = Tally::new("scan_word");
     let mut one = |text: &[u8], from: usize| {
         let upto = valid_upto(text);
-        tally.same(unsafe { characters_check(text) }, upto, || format!("{text:02X?}"));
+        tally.same(unsafe { characters_check(text) }, upto, || {
+            format!("{text:02X?}")
+        });
         // The Rust scans text that is UTF-8: what comes before the first ill-formed sequence.
         let source = std::str::from_utf8(&text[..upto]).unwrap();
-        let from = (from..=upto).find(|&i| source.is_char_boundary(i)).unwrap_or(upto);
-        words.same(unsafe { characters_scan_word(text, from) }, scan_while(source, from, is_word), || format!("{text:02X?} from {from}"));
+        let from = (from..=upto)
+            .find(|&i| source.is_char_boundary(i))
+            .unwrap_or(upto);
+        words.same(
+            unsafe { characters_scan_word(text, from) },
+            held::scan_word(source, from),
+            || format!("{text:02X?} from {from}"),
+        );
     };
     one(&[], 0);
     for a in 0..=255 {
@@ -196,6 +244,36 @@ fn checked() -> u64 {
         one(&text, random.below(40));
     }
     tally.done() + words.done()
+}
+
+fn lined() -> u64 {
+    let mut tally = Tally::new("line_info");
+    let mut random = Random(0xD1B5_4A32_D192_ED03);
+    for _ in 0..200_000 {
+        let text: String = (0..random.below(40))
+            .map(|_| {
+                if random.below(5) == 0 {
+                    '\n'
+                } else {
+                    random.character()
+                }
+            })
+            .collect();
+        // The Rust cuts the text at the place, which has to stand between characters or past the end.
+        let place = random.below(text.len() + 3);
+        if text.is_char_boundary(place) || text.len() < place {
+            let ours = unsafe {
+                (
+                    error_line(text.as_bytes(), place),
+                    error_column(text.as_bytes(), place),
+                )
+            };
+            tally.same(ours, held::line_info(&text, place), || {
+                format!("{text:?} at {place}")
+            });
+        }
+    }
+    tally.done()
 }
 
 // the least time of a call in nanoseconds, over many rounds
@@ -230,20 +308,44 @@ fn measured() {
     println!("64 KB, in microseconds: ours, Rust's, ratio");
     for (what, text) in &texts {
         let bytes = text.as_bytes();
-        let ours = least(|| { black_box(unsafe { characters_check(black_box(bytes)) }); });
-        let theirs = least(|| { black_box(std::str::from_utf8(black_box(bytes)).is_ok()); });
-        println!("  {what:<28} {:>8.2} {:>8.2} {:>6.2}", ours / 1e3, theirs / 1e3, ours / theirs);
+        let ours = least(|| {
+            black_box(unsafe { characters_check(black_box(bytes)) });
+        });
+        let theirs = least(|| {
+            black_box(std::str::from_utf8(black_box(bytes)).is_ok());
+        });
+        println!(
+            "  {what:<28} {:>8.2} {:>8.2} {:>6.2}",
+            ours / 1e3,
+            theirs / 1e3,
+            ours / theirs
+        );
     }
-    let words = [("words, ASCII", fitted("identifier_one-2nd").replace(' ', "a")), ("words, two bytes each", fitted("слово").replace(' ', "a"))];
+    let words = [
+        (
+            "words, ASCII",
+            fitted("identifier_one-2nd").replace(' ', "a"),
+        ),
+        ("words, two bytes each", fitted("слово").replace(' ', "a")),
+    ];
     for (what, text) in &words {
-        let ours = least(|| { black_box(unsafe { characters_scan_word(black_box(text.as_bytes()), 0) }); });
-        let theirs = least(|| { black_box(scan_while(black_box(text), 0, is_word)); });
-        println!("  {what:<28} {:>8.2} {:>8.2} {:>6.2}", ours / 1e3, theirs / 1e3, ours / theirs);
+        let ours = least(|| {
+            black_box(unsafe { characters_scan_word(black_box(text.as_bytes()), 0) });
+        });
+        let theirs = least(|| {
+            black_box(held::scan_word(black_box(text), 0));
+        });
+        println!(
+            "  {what:<28} {:>8.2} {:>8.2} {:>6.2}",
+            ours / 1e3,
+            theirs / 1e3,
+            ours / theirs
+        );
     }
 }
 
 fn main() {
-    let differ = classes() + encoded() + checked();
+    let differ = classes() + encoded() + checked() + lined();
     measured();
     if differ != 0 {
         println!("{differ} differ");

@@ -1,10 +1,11 @@
-// The functions of characters under plain names, for programs in Rust or C to link: compare/characters does.
+// The functions of characters and error under plain names, for programs in Rust or C to link: compare/characters does.
 ghost use mathlib.Core.Path.{_≡_};
 ghost use lib.ListN.{length};
 ghost use Rattle.characters.specs.Utf8.{check, isScalar};
 ghost use Rattle.characters.specs.Alphabetic.{isAlphabetic};
 ghost use Rattle.characters.specs.Classes.{isAsciiDigit, isAsciiHexdigit, isWhitespace, isEcmascriptWhitespace, isLineTerminator, isPunctuation, isWord};
 ghost use Rattle.characters.specs.Promise.{runEnd, written, scalarBytes};
+ghost use Rattle.error.specs.Lines.{lineAt, columnAt};
 ghost use Rattle.characters_c.specs.Upto.{validUpto};
 use characters::Checked;
 
@@ -94,4 +95,20 @@ pub extern "C" fn characters_is_line_terminator(code: u32) -> bool
     ensures { λ r. ⌜ r ≡ isLineTerminator code ⌝ }
 {
     characters::is_line_terminator(code)
+}
+
+#[no_mangle]
+pub extern "C" fn error_line(text: &[u8], place: usize) -> usize
+    ensures { λ r. ⌜ r ≡ lineAt (now (text .entry)) place ⌝ }
+{
+    let info = error::line_info(text, place);
+    info.line
+}
+
+#[no_mangle]
+pub extern "C" fn error_column(text: &[u8], place: usize) -> usize
+    ensures { λ r. ⌜ r ≡ columnAt (now (text .entry)) place ⌝ }
+{
+    let info = error::line_info(text, place);
+    info.column
 }
