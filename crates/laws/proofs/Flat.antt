@@ -100,8 +100,14 @@ agreeing-all (r ∷ rs) (q ∷ qs) h = let a = both-true (agreeing r q) (allAgre
 -- a record agrees with another that is the same but for the start
 same-agreeing : (r q : Record) → noStart r ≡ noStart q → agreeing r q ≡ true
 same-agreeing r q h =
-    rw (eq-eqb (r .kind) (q .kind) (ap (λ x. x .kind) h), eq-eqb (r .place) (q .place) (ap (λ x. x .place) h), eq-eqb (r .size) (q .size) (ap (λ x. x .size) h), eq-eqb (r .value) (q .value) (ap (λ x. x .value) h),
-      eq-eqb (r .second) (q .second) (ap (λ x. x .second) h), eq-eqb (r .children) (q .children) (ap (λ x. x .children) h))
+    rw (
+      eq-eqb (r .kind) (q .kind) (ap (λ x. x .kind) h),
+      eq-eqb (r .place) (q .place) (ap (λ x. x .place) h),
+      eq-eqb (r .size) (q .size) (ap (λ x. x .size) h),
+      eq-eqb (r .value) (q .value) (ap (λ x. x .value) h),
+      eq-eqb (r .second) (q .second) (ap (λ x. x .second) h),
+      eq-eqb (r .children) (q .children) (ap (λ x. x .children) h),
+    )
 
 heads : {A : Type 0} {x y : A} {xs ys : List A} → x ∷ xs ≡ y ∷ ys → (x ≡ y) × (xs ≡ ys)
 heads e = (cc, cc)
@@ -203,16 +209,25 @@ mutual
   grow-branch : (b : Branch) (a : ℕ) (ts : List ℕ) (rs : List Record) (stack : List Branch) → grow (textsOf (nodes b) ++ ts) (recordsFrom a (nodes b) ++ rs) stack ≡ grow ts rs (b ∷ stack)
   grow-branch (branch r bs) a ts rs stack =
       let x : Node = record { row = r; children = count bs } in
-      rw (texts-append (nodesAll bs) (x ∷ []), append-assoc (textsOf (nodesAll bs)) (textsOf (x ∷ [])) ts, records-append a (nodesAll bs) (x ∷ []),
-        append-assoc (recordsFrom a (nodesAll bs)) (recordsFrom (a + length (textsOf (nodesAll bs))) (x ∷ [])) rs, grow-branches bs a (textsOf (x ∷ []) ++ ts) (recordsFrom (a + length (textsOf (nodesAll bs))) (x ∷ []) ++ rs) stack)
+      rw (
+        texts-append (nodesAll bs) (x ∷ []),
+        append-assoc (textsOf (nodesAll bs)) (textsOf (x ∷ [])) ts,
+        records-append a (nodesAll bs) (x ∷ []),
+        append-assoc (recordsFrom a (nodesAll bs)) (recordsFrom (a + length (textsOf (nodesAll bs))) (x ∷ [])) rs,
+        grow-branches bs a (textsOf (x ∷ []) ++ ts) (recordsFrom (a + length (textsOf (nodesAll bs))) (x ∷ []) ++ rs) stack,
+      )
       (last-one r bs (a + length (textsOf (nodesAll bs))) ts rs stack)
 
   grow-branches : (bs : Branches) (a : ℕ) (ts : List ℕ) (rs : List Record) (stack : List Branch) → grow (textsOf (nodesAll bs) ++ ts) (recordsFrom a (nodesAll bs) ++ rs) stack ≡ grow ts rs (onto bs stack)
   grow-branches []ᴮ a ts rs stack = refl
   grow-branches (b ∷ᴮ bs) a ts rs stack =
-      rw (texts-append (nodes b) (nodesAll bs), append-assoc (textsOf (nodes b)) (textsOf (nodesAll bs)) ts, records-append a (nodes b) (nodesAll bs),
+      rw (
+        texts-append (nodes b) (nodesAll bs),
+        append-assoc (textsOf (nodes b)) (textsOf (nodesAll bs)) ts,
+        records-append a (nodes b) (nodesAll bs),
         append-assoc (recordsFrom a (nodes b)) (recordsFrom (a + length (textsOf (nodes b))) (nodesAll bs)) rs,
-        grow-branch b a (textsOf (nodesAll bs) ++ ts) (recordsFrom (a + length (textsOf (nodes b))) (nodesAll bs) ++ rs) stack) (grow-branches bs (a + length (textsOf (nodes b))) ts rs (b ∷ stack))
+        grow-branch b a (textsOf (nodesAll bs) ++ ts) (recordsFrom (a + length (textsOf (nodes b))) (nodesAll bs) ++ rs) stack,
+      ) (grow-branches bs (a + length (textsOf (nodes b))) ts rs (b ∷ stack))
 
 grown : (b : Branch) → grow (texts b) (records b) [] ≡ b ∷ []
 unfolding grow
@@ -228,6 +243,7 @@ agreed b c r t =
     known (bareBranch b) (bareBranch c) (records-bare b ∙ agreeing-all (records b) (records c) r ∙ sym (records-bare c)) (texts-bare b ∙ same-true (texts b) (texts c) t ∙ sym (texts-bare c))
 
 pub agrees : (b c : Branch) → bareBranch b ≡ bareBranch c → (allAgreeing (records b) (records c) ≡ true) × (same (texts b) (texts c) ≡ true)
-agrees b c e =
-    (all-agreeing (records b) (records c) (sym (records-bare b) ∙ ap records e ∙ records-bare c),
-    ap (same (texts b)) (sym (texts-bare c) ∙ ap texts (sym e) ∙ texts-bare b) ∙ same-refl (texts b))
+agrees b c e = (
+  all-agreeing (records b) (records c) (sym (records-bare b) ∙ ap records e ∙ records-bare c),
+  ap (same (texts b)) (sym (texts-bare c) ∙ ap texts (sym e) ∙ texts-bare b) ∙ same-refl (texts b),
+)

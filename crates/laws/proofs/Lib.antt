@@ -18,3 +18,4 @@ pub mod ReadBackGrammar
 pub mod Flat
 pub mod Decode
 pub mod DecodeBack
+pub mod Agreement
