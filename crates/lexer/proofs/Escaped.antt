@@ -14,9 +14,9 @@ use borrow.Author.Tests.{lt-ltb, le-ltb, le-leb, eq-eqb, ne-eqb, eqb-true, leb-t
 use Rattle.basics.specs.Basics.{within, if_then_else_, is, among, letters, head}
 use Rattle.characters.specs.Places.{decodeAt, past, charsAt, peekAt}
 use Rattle.characters.specs.Utf8.{codes, encodeAll, width, encode, isScalar}
-use Rattle.characters.specs.Promise.{Next, written, writtenAll}
+use Rattle.characters.specs.Promise.{Next, written, writtenAll, scalarBytes}
 use Rattle.characters.proofs.Encode.{scalar-low, width-some, IsScalar, width-small, ascii-wide}
-use Rattle.characters.proofs.Written.{length-written}
+use Rattle.characters.proofs.Written.{bytes-some, length-written}
 use Rattle.characters.specs.declared.Char.{Char}
 use Rattle.characters.specs.declared.Char.the-variants.{Scalar, Ill}
 use Rattle.characters.proofs.Laws.{scalar-fits}
@@ -456,6 +456,7 @@ module _ (s : List ℕ) (at : ℕ) where
   value-end r h e = ap (map (λ a. a .char)) (h .atoms ∙ ap (atomAnswer s) e)
 
   pub record Value (c end : ℕ) : Type 0 where
+    pub past : at < end
     pub forth : at + width c ≤ end
     pub inside : end ≤ length s
     pub scalar : IsScalar c
@@ -465,7 +466,8 @@ module _ (s : List ℕ) (at : ℕ) where
   unfolding valueAt
   value-on r c end x h e =
       let p = subst (AtomPlaced s at) e (h .placed) in
-      record { forth = p .0; inside = p .1; scalar = p .2; value = ap (map (λ a. a .char)) (h .atoms ∙ ap (atomAnswer s) e) }
+      let w = width-some c in
+      record { past = (let l = p .0 in omega arith); forth = p .0; inside = p .1; scalar = p .2; value = ap (map (λ a. a .char)) (h .atoms ∙ ap (atomAnswer s) e) }
 
 -- n bytes of a string's value are written, up to place `at` of its text
 pub record Decoding (body out₀ out : List ℕ) (at n : ℕ) : Type 0 where
@@ -492,19 +494,22 @@ module _ (body out₀ out : List ℕ) (at n : ℕ) (d : Decoding body out₀ out
   unfolding valueAt atomsAt writtenAll decodeString encodeAll
   decoded e = (let k = rw e at (d .size) in omega arith, rw e at (d .bytes))
 
-  pub step : (out′ : List ℕ) (c end r : ℕ) → Value body at c end → (r ≡ width c) × (out′ ≡ written out n (encode c)) → Decoding body out₀ out′ end (n + r)
+  pub step : (out′ : List ℕ) (c end r : ℕ) → Value body at c end → (r ≡ length (scalarBytes c)) × (out′ ≡ written out n (scalarBytes c))
+      → Decoding body out₀ out′ end (n + r)
   step out′ c end r v h =
       let f = v .forth in
-      let k = h .0 in
+      let b = bytes-some c (v .scalar) in
+      let k : r ≡ width c = h .0 ∙ ap length b in
+      let o : out′ ≡ written out n (encode c) = h .1 ∙ ap (written out n) b in
       let g = d .few in
       let s = rw (v .value) at (d .size) in
       let l = size-one c (valueAt body end) in
       record {
         inside = v .inside;
         few = omega arith;
-        same = ap length (h .1) ∙ length-written out n (encode c) ∙ d .same;
+        same = ap length o ∙ length-written out n (encode c) ∙ d .same;
         size = omega arith;
-        bytes = rw (k, h .1) (sym (all-one out n c (valueAt body end)) ∙ (rw (v .value) at (d .bytes)));
+        bytes = rw (k, o) (sym (all-one out n c (valueAt body end)) ∙ (rw (v .value) at (d .bytes)));
       }
 
 -- the next atom

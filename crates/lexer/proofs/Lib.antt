@@ -7,3 +7,4 @@ pub mod Held
 pub mod Spans
 pub mod Faults
 pub mod Spelled
+pub mod Blocks

@@ -53,6 +53,10 @@ not-got at cs (some k) h = cc
 part-of : {s : List ℕ} {a k e : ℕ} → Run s a k e → Part s a e
 part-of r = record { forth = r .forth; inside = r .inside; bytes = r .bytes }
 
+pub next-peek : (s : List ℕ) (at c : ℕ) → Next s at c → peekAt s at ≡ c
+unfolding peekAt
+next-peek s at c n = rw (n .chars)
+
 module _ (s : List ℕ) (at : ℕ) (i : at + 1 ≤ length s) where
   string-lexes : (q : ℕ) {o : Option ℕ} {e end : ℕ} → peekAt s at ≡ q → Got (at + 1) (charsAt s (at + 1)) o e end
       → Lexes s at 1 (stringOf (charsAt s (at + 1)) o) (Token (String q (at + 1) e) at end)

@@ -232,9 +232,9 @@ pub record Pushed (ws : List ℕ) (n : ℕ) (s : Span) (after : List ℕ) (met :
 -- spans from a place on put into words, up to the end, to the first that is reversed or met, or while there is room
 abbrev pub Fills : List ℕ → ℕ → List ℕ → Filled → Type 0
 Fills s from ws (B.Full n end) =
-    (from < end) × (end ≤ length s) × Held ws n × (length (spansAt s from) ≡ n + length (spansAt s end))
+    (from < end) × (from + n ≤ end) × (end ≤ length s) × Held ws n × (length (spansAt s from) ≡ n + length (spansAt s end))
     × (fault (spansAt s from) ≡ faultFrom (spansIn n ws) (spansAt s end))
-Fills s from ws (B.All n) = (length (spansAt s from) ≡ n) × (fault (spansAt s from) ≡ none)
+Fills s from ws (B.All n) = (from + n ≤ length s) × (length (spansAt s from) ≡ n) × (fault (spansAt s from) ≡ none)
 Fills s from ws B.Reversed = fault (spansAt s from) ≡ some reversedSpan
 Fills s from ws B.Overlapping = fault (spansAt s from) ≡ some overlappingSpan
 
