@@ -133,7 +133,7 @@ fn skip_trivia(source: &[u8], from: usize) -> Trivia
             return Trivia::Clear(cursor);
         }
         let start = cursor;
-        cursor += 2;
+        cursor = start + 2;
         'block: loop {
             let Char::Scalar(e, m) = characters::decode(source, cursor) else {
                 return Trivia::Unclosed(start);
@@ -154,10 +154,11 @@ fn lex_string(source: &[u8], start: usize, quote: u32) -> Lexed
     requires { ⌜ Next (now source) start quote ⌝ }
     ensures { λ r. ⌜ Lexes (now (source .entry)) start 1 (stringOf (charsAt (now (source .entry)) (start + 1)) (body isLineTerminator quote false (charsAt (now (source .entry)) (start + 1)))) r ⌝ }
 {
-    let Found::At(e, end) = string_end(source, start + 1, quote) else {
+    let content_start = start + 1;
+    let Found::At(e, end) = string_end(source, content_start, quote) else {
         return Lexed::Refused(Cause::UnterminatedString, start);
     };
-    Lexed::Token(Kind::String(quote, start + 1, e), start, end)
+    Lexed::Token(Kind::String(quote, content_start, e), start, end)
 }
 
 // Where a string ends whose text begins at a place. A backslash takes the character after it along, but no line terminator.
@@ -203,10 +204,11 @@ fn lex_set(source: &[u8], start: usize, inverted: bool) -> Lexed
     requires { ⌜ (start + 1 ≤ length (now source)) × Next (now source) (start + 1) 0x5B ⌝ }
     ensures { λ r. ⌜ Lexes (now (source .entry)) start 1 (setOf inverted (drop 1 (charsAt (now (source .entry)) (start + 1))) (body never 0x5D false (drop 1 (charsAt (now (source .entry)) (start + 1))))) r ⌝ }
 {
-    let Found::At(e, end) = set_end(source, start + 2) else {
+    let content_start = start + 2;
+    let Found::At(e, end) = set_end(source, content_start) else {
         return Lexed::Refused(Cause::UnterminatedSet, start);
     };
-    Lexed::Token(Kind::Set(inverted, start + 2, e), start, end)
+    Lexed::Token(Kind::Set(inverted, content_start, e), start, end)
 }
 
 // Where a set ends whose text begins at a place. A backslash takes any character after it along.

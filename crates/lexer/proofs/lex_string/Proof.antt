@@ -6,8 +6,8 @@ use Rattle.lexer.proofs.Pieces.{next-peek, string-done, string-fails}
 use Rattle.lexer.proofs.lex_string.Statement.{statement}
 use Rattle.lexer.proofs.lex_string.Tie as tie
 
-add-string-end : tie.Need-add-string-end
-add-string-end c = search needs
+add-content-start : tie.Need-add-content-start
+add-content-start c = search needs
 
 string-end-requires : tie.Need-string-end-requires
 string-end-requires c κs = search needs
@@ -21,13 +21,10 @@ enum-told c = search needs
 returns : tie.Need-returns
 returns c = string-fails _ _ (c .before .before .before .before .pre .inside) _ (sym (c .enum-told .given .1) ∙ (c .before .before .string-end .ensures))
 
-add-t7 : tie.Need-add-t7
-add-t7 c = search needs
-
 returns-2 : tie.Need-returns-2
 returns-2 c = let p = (c .before .before .before .before .before .pre) in string-done _ _ (p .inside) _ _ _ (next-peek _ _ _ p) (sym (c .before .e .given .1) ∙ (c .before .before .before .string-end .ensures))
 
 pub lex-string-spec : {M : Type 1} → statement M
 lex-string-spec =
     tie.close
-    (tie.spec add-string-end string-end-requires enum-known-e enum-told returns add-t7 returns-2)
+    (tie.spec add-content-start string-end-requires enum-known-e enum-told returns returns-2)
