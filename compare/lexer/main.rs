@@ -305,7 +305,7 @@ fn times() {
             time(3, || parse::set_ranges(&body)),
         );
     }
-    for n in [1, 2, 4, 8, 16, 32, 64, 128, 256, 512, 1024, 2048, 4096] {
+    for n in [1, 2, 4, 8, 16, 17, 20, 32, 64, 128, 256, 257, 300, 512, 1024, 4096] {
         for (order, name) in ["ascending", "descending", "in no order"].iter().enumerate() {
             let body: String = distinct(n, order).iter().collect();
             let count = room / (body.len() + 4);
