@@ -4,21 +4,28 @@ use mathlib.Core.Path.{_≡_, refl, sym, _∙_, ap, subst}
 use mathlib.Core.Bool.{Bool, true, false, _&&_, not, and-false}
 use mathlib.Core.List.{List, [], _∷_}
 use mathlib.Core.Option.{Option, none, some}
-use Prim.Native.Nat.{ℕ, _+_, _≤_, _<_}
+use Prim.Native.Nat.{ℕ, suc, _+_, _≤_, _<_}
 use native.Mathlib.Omega.{arith}
+use lib.Dec.{eqb}
 use lib.ListN.{length}
+use borrow.Author.Tests.{ne-eqb}
 use Rattle.basics.specs.Basics.{if_then_else_, is}
+use Rattle.basics.proofs.Tests.{cases}
 use Rattle.characters.specs.Utf8.{codes}
+use Rattle.characters.specs.Places.{decodeAt, charsAt, peekAt}
+use Rattle.characters.specs.declared.Char.{Char}
+use Rattle.characters.specs.declared.Char.the-variants.{Scalar, Ill}
+use Rattle.characters.proofs.Chars.{codes-on, codes-off, peek-on, next-head}
 use Rattle.characters.specs.Spans.{Span, _upto_}
 use Rattle.characters.proofs.Encode.{scalar-top, width-some}
-use Rattle.lexer.specs.Escapes.{Atom}
+use Rattle.lexer.specs.Escapes.{Atom, escape, escapedBy, atomsFrom}
 use Rattle.lexer.specs.Sets.{dash, rangeEnd, written, spans}
 use Rattle.lexer.specs.Promise.{atomsAt, ReadsAtom, spansAt, rangeAnswer, RangePlaced, ReadsRange}
 use Rattle.lexer.specs.declared.escapes.Atom as A
 use Rattle.lexer.specs.declared.escapes.Atom.the-variants as Read
 use Rattle.lexer.specs.declared.sets.Range.{Range}
 use Rattle.lexer.specs.declared.sets.Range.the-variants.{One, End}
-use Rattle.lexer.proofs.Escaped.{value-on, atoms-on}
+use Rattle.lexer.proofs.Escaped.{value-on, atoms-on, atoms-plain, atoms-escaped}
 
 -- ------------------------------------------------------------------ the spans of atoms
 
@@ -61,6 +68,35 @@ atom-of s at r c end x h e =
 abbrev atomOf : ℕ → Bool → Atom
 atomOf c x = record { char = c; escaped = x }
 
+cases-escaped : (a : Atom) (l : List ℕ) (rest : ℕ → List Atom) → rangeEnd a (escapedBy l rest) ≡ none
+unfolding rangeEnd
+cases-escaped a [] rest = refl
+cases-escaped a (e ∷ cs) rest =
+    other-none a (record { char = escape e cs .char; escaped = true }) (rest (suc (escape e cs .taken))) (and-false (is "-" (escape e cs .char)))
+
+-- a dash that stands there raw is the next atom, and no other atom is a dash
+dash-at : (s : List ℕ) (at : ℕ) → peekAt s at ≡ 0x2D → atomsAt s at ≡ atomOf 0x2D false ∷ atomsAt s (at + 1)
+unfolding atomsAt
+dash-at s at h = ap (λ (l : List ℕ). atomsFrom l 0) (next-head s at 0x2D (omega arith) (omega arith) h .chars) ∙ atoms-plain 0x2D (charsAt s (at + 1)) refl
+
+pub dash-inside : (s : List ℕ) (at : ℕ) → peekAt s at ≡ 0x2D → at + 1 ≤ length s
+dash-inside s at h = next-head s at 0x2D (omega arith) (omega arith) h .inside
+
+none-left : (a : Atom) → rangeEnd a (atomsFrom [] 0) ≡ none
+unfolding rangeEnd atomsFrom
+none-left a = refl
+
+no-dash : (s : List ℕ) (at : ℕ) (a : Atom) → (peekAt s at ≡ 0x2D → ⊥) → rangeEnd a (atomsAt s at) ≡ none
+unfolding atomsAt
+no-dash s at a h = by (decodeAt s at) refl
+  where
+    by : (ch : Char) → decodeAt s at ≡ ch → rangeEnd a (atomsFrom (charsAt s at) 0) ≡ none
+    by Ill e = rw (codes-off s at e) (none-left a)
+    by (Scalar c n) e =
+        rw (codes-on s at e) (cases (eqb c 0x5C) (λ q. rw (atoms-escaped c (charsAt s (at + n)) q) (cases-escaped a (charsAt s (at + n)) (λ k. atomsFrom (charsAt s (at + n)) k)))
+        (λ q. rw (atoms-plain c (charsAt s (at + n)) q)
+        (other-none a (atomOf c false) (atomsFrom (charsAt s (at + n)) 0) (rw (ne-eqb c 0x2D (λ z. h (peek-on s at e ∙ z)))))))
+
 module _ (s : List ℕ) (at : ℕ) where
   pub range-none : atomsAt s at ≡ [] → ReadsRange s at End
   unfolding spansAt written
@@ -75,29 +111,28 @@ module _ (s : List ℕ) (at : ℕ) where
     pub range-dash : dash (atomOf a x) ≡ true → ReadsRange s at (One a (a + 1) after)
     range-dash e = single (dash-none (atomOf a x) (atomsAt s after) e)
 
-    pub range-last : atomsAt s after ≡ [] → ReadsRange s at (One a (a + 1) after)
-    unfolding rangeEnd
-    range-last e = single (rw e)
+    -- no dash follows
+    pub range-single : (peekAt s after ≡ 0x2D → ⊥) → ReadsRange s at (One a (a + 1) after)
+    range-single h = single (no-dash s after (atomOf a x) h)
 
-    module _ (b next : ℕ) (y : Bool) (g : Stands s after b y next) where
-      pub range-single : dash (atomOf b y) ≡ false → ReadsRange s at (One a (a + 1) after)
-      range-single e = single (rw (g .atom) (other-none (atomOf a x) (atomOf b y) (atomsAt s next) e))
+    -- a dash follows
+    module _ (g : peekAt s after ≡ 0x2D) where
+      dashed : atomsAt s after ≡ atomOf 0x2D false ∷ atomsAt s (after + 1)
+      dashed = dash-at s after g
 
-      pub range-short : atomsAt s next ≡ [] → ReadsRange s at (One a (a + 1) after)
+      pub range-short : atomsAt s (after + 1) ≡ [] → ReadsRange s at (One a (a + 1) after)
       unfolding rangeEnd
-      range-short e = single (rw (g .atom, e))
+      range-short e = single (rw (dashed, e))
 
-      pub range-whole : (z end : ℕ) (w : Bool) → dash (atomOf a x) ≡ false → dash (atomOf b y) ≡ true → Stands s next z w end
-          → ReadsRange s at (One a (z + 1) end)
+      pub range-whole : (z end : ℕ) (w : Bool) → dash (atomOf a x) ≡ false → Stands s (after + 1) z w end → ReadsRange s at (One a (z + 1) end)
       unfolding spansAt
-      range-whole z end w e f k =
-          let p : atomsAt s at ≡ atomOf a x ∷ atomOf b y ∷ atomOf z w ∷ atomsAt s end =
-          h .atom ∙ ap (λ (l : List Atom). atomOf a x ∷ l) (g .atom ∙ ap (λ (l : List Atom). atomOf b y ∷ l) (k .atom)) in
+      range-whole z end w e k =
+          let p : atomsAt s at ≡ atomOf a x ∷ atomOf 0x2D false ∷ atomOf z w ∷ atomsAt s end =
+          h .atom ∙ ap (λ (l : List Atom). atomOf a x ∷ l) (dashed ∙ ap (λ (l : List Atom). atomOf 0x2D false ∷ l) (k .atom)) in
           let h₁ = h .forth in
-          let h₂ = g .forth in
           let h₃ = k .forth in
           record {
-            spans = ap (λ (l : List Atom). written l 0) p ∙ written-range (atomOf a x) (atomOf b y) (atomOf z w) (atomsAt s end) e f;
+            spans = ap (λ (l : List Atom). written l 0) p ∙ written-range (atomOf a x) (atomOf 0x2D false) (atomOf z w) (atomsAt s end) e refl;
             placed = (omega arith, k .inside);
           }
 

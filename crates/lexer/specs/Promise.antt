@@ -234,7 +234,9 @@ abbrev pub Fills : List ℕ → ℕ → List ℕ → Filled → Type 0
 Fills s from ws (B.Full n end) =
     (from < end) × (from + n ≤ end) × (end ≤ length s) × Held ws n × (length (spansAt s from) ≡ n + length (spansAt s end))
     × (fault (spansAt s from) ≡ faultFrom (spansIn n ws) (spansAt s end))
-Fills s from ws (B.All n) = (from + n ≤ length s) × (length (spansAt s from) ≡ n) × (fault (spansAt s from) ≡ none)
+Fills s from ws (B.All n) =
+    (from + n ≤ length s) × (length (spansAt s from) ≡ n) × (fault (spansAt s from) ≡ none) × (2 * n ≤ length ws)
+    × (spansIn n ws ≡ sorted (spansAt s from))
 Fills s from ws B.Reversed = fault (spansAt s from) ≡ some reversedSpan
 Fills s from ws B.Overlapping = fault (spansAt s from) ≡ some overlappingSpan
 
@@ -265,6 +267,17 @@ storedBy (some c) ss out = out
 
 unfoldable pub stored : List Span → List ℕ → List ℕ
 stored ss out = storedBy (fault ss) ss out
+
+-- the first m words laid over others, where they fit
+unfoldable pub copied : ℕ → List ℕ → List ℕ → List ℕ
+copied m ws out = if leb m (length out) then take m ws ++ drop m out else out
+
+-- a set whose spans fit one block is done with; of any other nothing is stored
+abbrev pub Parses : List Span → (out after : List ℕ) → Filled → Type 0
+Parses ss out after (B.Full n end) = after ≡ out
+Parses ss out after (B.All n) = Checks ss (Sound n) × (after ≡ stored ss out)
+Parses ss out after B.Reversed = Checks ss Reversed × (after ≡ stored ss out)
+Parses ss out after B.Overlapping = Checks ss Overlapping × (after ≡ stored ss out)
 
 -- ------------------------------------------------------------------ words
 

@@ -111,3 +111,117 @@ digit d h =
         low = rw (digit-high d (omega arith)) (omega arith);
       }
     ]
+
+hex-low : (k n : ℕ) (rest : List ℕ) → n < 16 → hexFrom (suc k) n rest ≡ hexDigit n ∷ rest
+unfolding hexFrom
+hex-low k n rest h = rw (lt-ltb n 16 h, hexFrom)
+
+hex-high : (k n : ℕ) (rest : List ℕ) → 16 ≤ n → hexFrom (suc k) n rest ≡ hexFrom k (n / 16) (hexDigit (n % 16) ∷ rest)
+unfolding hexFrom
+hex-high k n rest h = rw (le-ltb n 16 h, hexFrom)
+
+-- what comes after the digits can be put there later
+hex-append : (k n : ℕ) (x y : List ℕ) → hexFrom k n x ++ y ≡ hexFrom k n (x ++ y)
+unfolding hexFrom
+hex-append zero n x y = refl
+hex-append (suc k) n x y =
+    elim (decLt n 16) [
+      | yes l ↦ rw (hex-low k n x l, hex-low k n (x ++ y) l)
+      | no l ↦ rw (hex-high k n x (omega arith), hex-high k n (x ++ y) (omega arith)) (hex-append k (n / 16) (hexDigit (n % 16) ∷ x) y)
+    ]
+
+-- so many characters more
+abbrev furtherBy : ℕ → Option Escape → Option Escape
+furtherBy zero o = o
+furtherBy (suc n) o = further (furtherBy n o)
+
+further-out : (n : ℕ) (o : Option Escape) → furtherBy n (further o) ≡ further (furtherBy n o)
+further-out zero o = refl
+further-out (suc n) o = ap further (further-out n o)
+
+further-some : (m c j : ℕ) → furtherBy m (some (record { char = c; taken = j })) ≡ some (record { char = c; taken = m + j })
+further-some zero c j = let e : 0 + j ≡ j = omega arith in rw e
+further-some (suc m) c j = let e : suc m + j ≡ suc (m + j) = omega arith in ap further (further-some m c j) ∙ rw e
+
+abbrev limit : ℕ → ℕ
+limit zero = 1
+limit (suc k) = 16 * limit k
+
+-- the digits of a number are read as that number
+record Hex (k n : ℕ) (rest : List ℕ) : Type 0 where
+  digits : ℕ
+  value : untilBrace 0 (hexFrom k n rest) ≡ furtherBy digits (untilBrace n rest)
+  gone : drop digits (hexFrom k n rest) ≡ rest
+  first : eqb (head (hexFrom k n rest)) 0x7D ≡ false
+
+one-digit : (v d : ℕ) (rest : List ℕ) → d < 16 → untilBrace v (hexDigit d ∷ rest) ≡ further (untilBrace (v * 16 + d) rest)
+one-digit v d rest h =
+    let g = digit d h in
+    let l = g .low in
+    until-on (hexDigit d) rest v d (ne-eqb (hexDigit d) 0x7D (λ q. omega arith)) (g .value)
+
+hex-one : (k n : ℕ) (rest : List ℕ) → n < 16 → Hex (suc k) n rest
+hex-one k n rest h =
+    let e : 0 * 16 + n ≡ n = omega arith in
+    let l = digit n h .low in
+    rw (hex-low k n rest h) at (record {
+      digits = 1;
+      value = rw (hex-low k n rest h) (one-digit 0 n rest h ∙ ap (λ (v : ℕ). further (untilBrace v rest)) e);
+      gone = rw (hex-low k n rest h);
+      first = rw (hex-low k n rest h) (ne-eqb (hexDigit n) 0x7D (λ q. omega arith));
+    })
+
+hex-back : (k n : ℕ) (rest : List ℕ) → n < limit (suc k) → Hex (suc k) n rest
+hex-back zero n rest h = hex-one zero n rest (omega arith)
+hex-back (suc k) n rest h =
+    elim (decLt n 16) [
+      | yes l ↦ hex-one (suc k) n rest l
+      | no l ↦ (let g : 16 ≤ n = omega arith in more g (hex-back k (n / 16) (hexDigit (n % 16) ∷ rest) (omega arith)))
+    ]
+  where
+    more : 16 ≤ n → Hex (suc k) (n / 16) (hexDigit (n % 16) ∷ rest) → Hex (suc (suc k)) n rest
+    more g r =
+        let e : n / 16 * 16 + n % 16 ≡ n = omega arith in
+        let q : (r .digits) + 1 ≡ suc (r .digits) = omega arith in
+        let s = hex-high (suc k) n rest g in
+        record {
+          digits = suc (r .digits);
+          value = rw s (r .value ∙ ap (furtherBy (r .digits)) (one-digit (n / 16) (n % 16) rest (omega arith) ∙ ap (λ (v : ℕ). further (untilBrace v rest)) e)
+              ∙ further-out (r .digits) (untilBrace n rest));
+          gone = rw s (ap (λ (m : ℕ). drop m (hexFrom (suc k) (n / 16) (hexDigit (n % 16) ∷ rest))) (sym q)
+              ∙ sym (drop-drop 1 (r .digits) (hexFrom (suc k) (n / 16) (hexDigit (n % 16) ∷ rest))) ∙ ap (drop 1) (r .gone));
+          first = rw s (r .first);
+        }
+
+-- ------------------------------------------------------------------ sets
+
+code-append : (c : ℕ) (rest : List ℕ) → codeText c ++ rest ≡ 0x5C ∷ 0x75 ∷ 0x7B ∷ hexFrom 6 c (0x7D ∷ rest)
+unfolding codeText
+code-append c rest = ap (λ (l : List ℕ). 0x5C ∷ 0x75 ∷ 0x7B ∷ l) (hex-append 6 c (0x7D ∷ []) rest)
+
+module _ (c : ℕ) (s : isScalar c ≡ true) (rest : List ℕ) where
+  hex : Hex 6 c (0x7D ∷ rest)
+  hex = let t = scalar-top c s in hex-back 5 c (0x7D ∷ rest) (omega arith)
+
+  taken : ℕ
+  taken = suc (hex .digits + 1)
+
+  escape-back : escape 0x75 (0x7B ∷ hexFrom 6 c (0x7D ∷ rest)) ≡ record { char = c; taken = taken }
+  unfolding escape braced scalar taken
+  escape-back = rw (hex .first, hex .value, until-end 0x7D rest c refl, s, further-some (hex .digits) c 1)
+
+  drop-back : drop (suc taken) (0x75 ∷ 0x7B ∷ hexFrom 6 c (0x7D ∷ rest)) ≡ rest
+  unfolding taken
+  drop-back = sym (drop-drop 1 (hex .digits) (hexFrom 6 c (0x7D ∷ rest))) ∙ ap (drop 1) (hex .gone)
+
+  -- a code that is written so is one atom, escaped
+  pub code-back : atoms (codeText c ++ rest) ≡ record { char = c; escaped = true } ∷ atoms rest
+  code-back =
+      rw (code-append c rest) (atoms-escaped 0x5C (0x75 ∷ 0x7B ∷ hexFrom 6 c (0x7D ∷ rest)) refl
+      ∙ rw escape-back (ap (λ (l : List Atom). record { char = c; escaped = true } ∷ l)
+      (atoms-skip (0x75 ∷ 0x7B ∷ hexFrom 6 c (0x7D ∷ rest)) (suc taken) ∙ ap atoms drop-back)))
+
+-- spans that have codes, and whose ends are characters
+pub data Spelled : List Span → Type 0 where
+  no-spans : Spelled []
+  one-span : {s : Span} {ss : List Span} → s .first < s .past → isScalar (s .first) ≡ true → isScalar (s .past - 1) ≡ true → Spelled ss → Spelled (s ∷ ss)
