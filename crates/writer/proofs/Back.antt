@@ -164,12 +164,12 @@ hex-one : (k n : ℕ) (rest : List ℕ) → n < 16 → Hex (suc k) n rest
 hex-one k n rest h =
     let e : 0 * 16 + n ≡ n = omega arith in
     let l = digit n h .low in
-    rw (hex-low k n rest h) at (record {
+    record {
       digits = 1;
       value = rw (hex-low k n rest h) (one-digit 0 n rest h ∙ ap (λ (v : ℕ). further (untilBrace v rest)) e);
       gone = rw (hex-low k n rest h);
       first = rw (hex-low k n rest h) (ne-eqb (hexDigit n) 0x7D (λ q. omega arith));
-    })
+    }
 
 hex-back : (k n : ℕ) (rest : List ℕ) → n < limit (suc k) → Hex (suc k) n rest
 hex-back zero n rest h = hex-one zero n rest (omega arith)
@@ -225,3 +225,111 @@ module _ (c : ℕ) (s : isScalar c ≡ true) (rest : List ℕ) where
 pub data Spelled : List Span → Type 0 where
   no-spans : Spelled []
   one-span : {s : Span} {ss : List Span} → s .first < s .past → isScalar (s .first) ≡ true → isScalar (s .past - 1) ≡ true → Spelled ss → Spelled (s ∷ ss)
+
+-- atoms that begin with no dash
+data NoDash : List Atom → Type 0 where
+  none-first : NoDash []
+  escaped-first : {c : ℕ} {l : List Atom} → NoDash (record { char = c; escaped = true } ∷ l)
+
+abbrev coded : ℕ → Atom
+coded c = record { char = c; escaped = true }
+
+single : (c : ℕ) {l : List Atom} → NoDash l → written (coded c ∷ l) 0 ≡ c upto (c + 1) ∷ written l 0
+unfolding rangeEnd
+single c {l} none-first = written-one (coded c) [] refl
+single c (escaped-first {c = d} {l}) = written-one (coded c) (coded d ∷ l) (other-none (coded c) (coded d) l (and-false (is "-" d)))
+
+coded-dash : (c : ℕ) → (is "-" c && not true) ≡ false
+coded-dash c = and-false (is "-" c)
+
+-- the atoms of a span, by its text
+span-one : (s : Span) (rest : List ℕ) → isScalar (s .first) ≡ true → eqb (s .first + 1) (s .past) ≡ true → atoms (spanText s ++ rest) ≡ coded (s .first) ∷ atoms rest
+unfolding spanText
+span-one s rest a e = rw e (code-back (s .first) a rest)
+
+span-two : (s : Span) (rest : List ℕ) → isScalar (s .first) ≡ true → isScalar (s .past - 1) ≡ true → eqb (s .first + 1) (s .past) ≡ false
+    → atoms (spanText s ++ rest) ≡ coded (s .first) ∷ record { char = 0x2D; escaped = false } ∷ coded (s .past - 1) ∷ atoms rest
+unfolding spanText
+span-two s rest a b e =
+    rw (e, append-assoc (codeText (s .first) ++ letters "-") (codeText (s .past - 1)) rest, append-assoc (codeText (s .first)) (letters "-") (codeText (s .past - 1) ++ rest))
+    (code-back (s .first) a (0x2D ∷ codeText (s .past - 1) ++ rest)
+    ∙ ap (λ (l : List Atom). coded (s .first) ∷ l) (atoms-plain 0x2D (codeText (s .past - 1) ++ rest) refl ∙ ap (λ (l : List Atom). record { char = 0x2D; escaped = false } ∷ l) (code-back (s .past - 1) b rest)))
+
+spelled-dash : {ss : List Span} → Spelled ss → NoDash (atoms (spansText ss))
+unfolding spansText atomsFrom
+spelled-dash no-spans = none-first
+spelled-dash (one-span {s} {ss} f a b q) =
+    cases (eqb (s .first + 1) (s .past)) (λ e. rw (span-one s (spansText ss) a e) escaped-first) (λ e. rw (span-two s (spansText ss) a b e) escaped-first)
+
+-- spans that are written out are read as they are
+pub spans-back : {ss : List Span} → Spelled ss → spans (spansText ss) ≡ ss
+unfolding spansText atomsFrom written
+spans-back no-spans = refl
+spans-back (one-span {s} {ss} f a b q) =
+    cases (eqb (s .first + 1) (s .past))
+    (λ e. ap (λ (l : List Atom). written l 0) (span-one s (spansText ss) a e) ∙ single (s .first) (spelled-dash q)
+    ∙ rw (eqb-true (s .first + 1) (s .past) e) (ap (λ (l : List Span). s ∷ l) (spans-back q)))
+    (λ e. let n : s .past - 1 + 1 ≡ s .past = omega arith in
+    ap (λ (l : List Atom). written l 0) (span-two s (spansText ss) a b e)
+    ∙ written-range (coded (s .first)) (record { char = 0x2D; escaped = false }) (coded (s .past - 1)) (atoms (spansText ss)) (coded-dash (s .first)) refl
+    ∙ rw n (ap (λ (l : List Span). s ∷ l) (spans-back q)))
+
+-- ------------------------------------------------------------------ the body of a written set ends where it should
+
+digit-body : (d : ℕ) → d < 16 → {cs : List ℕ} → Body never 0x5D cs → Body never 0x5D (hexDigit d ∷ cs)
+digit-body d h b = let l = digit d h .low in b-plain (ne-eqb (hexDigit d) 0x5D (λ q. omega arith)) (ne-eqb (hexDigit d) 0x5C (λ q. omega arith)) b
+
+hex-body : (k n : ℕ) {rest : List ℕ} → Body never 0x5D rest → Body never 0x5D (hexFrom k n rest)
+unfolding hexFrom
+hex-body zero n b = b
+hex-body (suc k) n {rest} b =
+    elim (decLt n 16) [
+      | yes l ↦ rw (hex-low k n rest l) (digit-body n l b)
+      | no l ↦ (let g : 16 ≤ n = omega arith in rw (hex-high k n rest g) (hex-body k (n / 16) (digit-body (n % 16) (omega arith) b)))
+    ]
+
+code-body : (c : ℕ) {rest : List ℕ} → Body never 0x5D rest → Body never 0x5D (codeText c ++ rest)
+code-body c {rest} b = rw (code-append c rest) (b-escaped refl (b-plain refl refl (hex-body 6 c (b-plain refl refl b))))
+
+span-body : (s : Span) {rest : List ℕ} → Body never 0x5D rest → Body never 0x5D (spanText s ++ rest)
+unfolding spanText
+span-body s {rest} b =
+    cases (eqb (s .first + 1) (s .past)) (λ e. rw e (code-body (s .first) b))
+    (λ e. rw (e, append-assoc (codeText (s .first) ++ letters "-") (codeText (s .past - 1)) rest, append-assoc (codeText (s .first)) (letters "-") (codeText (s .past - 1) ++ rest))
+    (code-body (s .first) (b-plain refl refl (code-body (s .past - 1) b))))
+
+pub spans-body : (ss : List Span) → Body never 0x5D (spansText ss)
+unfolding spansText
+spans-body [] = b-none
+spans-body (s ∷ ss) = span-body s (spans-body ss)
+
+-- ------------------------------------------------------------------ and all of it is ASCII
+
+-- codes below 0x80
+pub data Ascii : List ℕ → Type 0 where
+  no-ascii : Ascii []
+  more-ascii : (c : ℕ) {cs : List ℕ} → c < 0x80 → Ascii cs → Ascii (c ∷ cs)
+
+hex-ascii : (k n : ℕ) {rest : List ℕ} → Ascii rest → Ascii (hexFrom k n rest)
+unfolding hexFrom
+hex-ascii zero n b = b
+hex-ascii (suc k) n {rest} b =
+    elim (decLt n 16) [
+      | yes l ↦ (let d = digit n l .low in rw (hex-low k n rest l) (more-ascii (hexDigit n) (omega arith) b))
+      | no l ↦ (let g : 16 ≤ n = omega arith in let d = digit (n % 16) (omega arith) .low in rw (hex-high k n rest g) (hex-ascii k (n / 16) (more-ascii (hexDigit (n % 16)) (omega arith) b)))
+    ]
+
+code-ascii : (c : ℕ) {rest : List ℕ} → Ascii rest → Ascii (codeText c ++ rest)
+code-ascii c {rest} b = rw (code-append c rest) (more-ascii 0x5C (omega arith) (more-ascii 0x75 (omega arith) (more-ascii 0x7B (omega arith) (hex-ascii 6 c (more-ascii 0x7D (omega arith) b)))))
+
+span-ascii : (s : Span) {rest : List ℕ} → Ascii rest → Ascii (spanText s ++ rest)
+unfolding spanText
+span-ascii s {rest} b =
+    cases (eqb (s .first + 1) (s .past)) (λ e. rw e (code-ascii (s .first) b))
+    (λ e. rw (e, append-assoc (codeText (s .first) ++ letters "-") (codeText (s .past - 1)) rest, append-assoc (codeText (s .first)) (letters "-") (codeText (s .past - 1) ++ rest))
+    (code-ascii (s .first) (more-ascii 0x2D (omega arith) (code-ascii (s .past - 1) b))))
+
+pub spans-ascii : (ss : List Span) → Ascii (spansText ss)
+unfolding spansText
+spans-ascii [] = no-ascii
+spans-ascii (s ∷ ss) = span-ascii s (spans-ascii ss)
