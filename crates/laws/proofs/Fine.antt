@@ -11,7 +11,7 @@ use Rattle.lexer.specs.Tokens.{Kind, Tokens, token, eof, bad}
 use Rattle.lexer.specs.Escapes.{decodeString}
 use Rattle.lexer.specs.Sets.{spans, fault, sorted}
 use Rattle.lexer.proofs.Back.{Words}
-use Rattle.writer.specs.Spelling.{spansText}
+use Rattle.writer.proofs.Back.{Spelled}
 
 -- without starts
 abbrev pub U : Type 0
@@ -25,9 +25,9 @@ pub record Word (t : List ℕ) : Type 0 where
 
 -- spans that, written out, are read as they are
 pub record ReadBack (ss : List Span) : Type 0 where
-  pub back : spans (spansText ss) ≡ ss
   pub sound : fault ss ≡ none
   pub ordered : sorted ss ≡ ss
+  pub spelled : Spelled ss
 
 -- a token's texts are such
 pub data FineKind : Kind → Type 0 where

@@ -4,6 +4,7 @@ pub mod AlikeExpressions
 pub mod AlikeDeclarations
 pub mod Fine
 pub mod Readable
+pub mod SpansFine
 pub mod FineTokens
 pub mod Meets
 pub mod MeetsExpressions

@@ -21,7 +21,7 @@ use Rattle.parser.specs.Parser.{Answer, read, Parser, _>>=_, _>>_, pure, choose
 use Rattle.parser.specs.Expressions.{repeatMark, markerMark, Item as SeqItem, marker, expression, partBy, parsePart, propNamed, propBy, parseProp, parseProps, classBy, setBy, parseSetExpression, literalOf, referenceOf, contentBy, inlineBy, stacked, repeatBy, parseRepeat, repeated, slots, sequenceOf, isEmptyArm, firstEmptyArm, choiceBy, choiceOf, parseBracedExpression, parseRuleNamed, parseInlineRuleExpression, parseSpecializeExpression, parseParenthesizedExpression, parseArguments, parseNamed, innerBy, parseExpressionInner, parseExpressionSuffix, itemBy, parseItem, parseExpressionSequence, parseArm, parseExpressionChoice, choiceAt}
 use Rattle.writer.specs.Spelling.{quoted, spansText}
 use Rattle.writer.specs.NormalText.{each, eachAfter, commas, bracketed, mark, identifier, propName, markerSign, specializeWord, repeatSign, className, bracketIf, partTokens, valueTokens, propTokens, propsTokens, isChoice, isSequence, markerTokens, expressionTokens, argumentsTokens, moreArguments, armsTokens, moreArms, slotsTokens, bodyTokens, ruleTokens}
-use Rattle.writer.proofs.Back.{decode-back}
+use Rattle.writer.proofs.Back.{decode-back, spans-back}
 use Rattle.laws.proofs.Lists.{clash, not-true, append-none, append-one}
 use Rattle.characters.proofs.Chars.{Scalars}
 use Rattle.laws.proofs.Fine.{U, Word, ReadBack}
@@ -652,7 +652,7 @@ module _ (R : Grade) (below : Parser U (Expression U)) (below-reads : (e : Expre
 
   set-reads : (i : Bool) (ss : List Span) → ReadBack ss → (ks : List Kind) → Reads (parseExpressionInner below) (Kind.set i (spansText ss) ∷ ks) (set tt i ss) ks
   unfolding parseExpressionInner innerBy parseSetExpression setBy
-  set-reads i ss g ks = bind-reads _ (here-reads _) (bind-reads _ (kind-reads _ refl) (rw (g .back, g .sound, setBy) (bind-reads _ (next-reads _ ks) (rw (g .ordered) (pure-reads _ ks)))))
+  set-reads i ss g ks = bind-reads _ (here-reads _) (bind-reads _ (kind-reads _ refl) (rw (spans-back (g .spelled), g .sound, setBy) (bind-reads _ (next-reads _ ks) (rw (g .ordered) (pure-reads _ ks)))))
 
   any-reads : (ks : List Kind) → Reads (parseExpressionInner below) (Kind.name (letters "_") ∷ ks) (any tt) ks
   unfolding parseExpressionInner innerBy same
