@@ -20,3 +20,5 @@ pub mod Flat
 pub mod Decode
 pub mod DecodeBack
 pub mod Agreement
+pub mod Lexable
+pub mod LexableDeclarations

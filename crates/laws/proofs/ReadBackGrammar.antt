@@ -191,7 +191,7 @@ member-reads (externalProp x) before f ks h = external-prop-reads x before ks
 member-reads detectDelim before f ks h = bind-reads _ (here-reads _) (bind-reads _ (kind-reads _ refl) (bind-reads _ (next-reads _ ks) (pure-reads _ ks)))
 
 -- each begins with a keyword or a name
-member-begins : (m : Member U) (ks : List Kind) → (isEnd (firstOf (memberTokens m ks)) ≡ false) × NoBrace (memberTokens m ks)
+pub member-begins : (m : Member U) (ks : List Kind) → (isEnd (firstOf (memberTokens m ks)) ≡ false) × NoBrace (memberTokens m ks)
 unfolding declarationTokens externalPropTokens
 member-begins (declaration (topRule r)) ks = (refl, refl)
 member-begins (declaration (rule r)) ks = (refl, refl)
@@ -250,11 +250,11 @@ members-back (m ∷ ms) before (fit-more f q) =
 
 -- ------------------------------------------------------------------ the grammar
 
-abbrev dialectMembers : List (Identifier U) → List (Member U)
+abbrev pub dialectMembers : List (Identifier U) → List (Member U)
 dialectMembers [] = []
 dialectMembers (n ∷ ns) = dialects (n ∷ ns) ∷ []
 
-abbrev detectMembers : Bool → List (Member U)
+abbrev pub detectMembers : Bool → List (Member U)
 detectMembers false = []
 detectMembers true = detectDelim ∷ []
 
