@@ -22,3 +22,4 @@ pub mod DecodeBack
 pub mod Agreement
 pub mod Lexable
 pub mod LexableDeclarations
+pub mod SameTokens
