@@ -23,3 +23,4 @@ pub mod Agreement
 pub mod Lexable
 pub mod LexableDeclarations
 pub mod SameTokens
+pub mod TextBack
