@@ -193,7 +193,7 @@ grammar-bare g =
 
 -- ------------------------------------------------------------------ agreement
 
-agree-records : (g h : GrammarDeclaration ℕ)
+pub agree-records : (g h : GrammarDeclaration ℕ)
     → agree g h ≡ (allAgreeing (records (grammarBranch g)) (records (grammarBranch h)) && same (texts (grammarBranch g)) (texts (grammarBranch h)))
 unfolding agree
 agree-records g h = refl

@@ -24,3 +24,5 @@ pub mod Lexable
 pub mod LexableDeclarations
 pub mod SameTokens
 pub mod TextBack
+pub mod Accepted
+pub mod Demand3
