@@ -1,0 +1,114 @@
+//! The oracle: what the unchanged `parse_grammar` answers, as refusals and stored records.
+//!
+//! Standard input has one text a line, its bytes in hexadecimal (an empty line is the empty text).
+//! Standard output has one line for each:
+//!
+//! - `R cause place line column`: refused; the cause's number follows from the message;
+//! - `T word,word,.. | bytes`: accepted; the words of all records and the bytes of all texts in
+//!   hexadecimal;
+//! - `N`: no answer, since a text that is not UTF-8 is no `&str`.
+//!
+//! The limits of levels, repeats and bytes are not the Rust's: causes 1, 2 and 3 never appear here.
+
+mod error;
+mod node;
+mod parse;
+mod records;
+
+use std::fmt::Write as _;
+use std::io::{self, BufRead, BufWriter, Write};
+
+// parse.rs asks for it at the crate's root.
+pub use error::GeneratorError;
+
+/// How each message of parse.rs begins, with the cause that it stands for.
+const MESSAGES: [(&str, u32); 19] = [
+    ("Unexpected character", 4),
+    ("Unterminated string", 5),
+    ("@ without a name", 6),
+    ("Unterminated character set", 7),
+    ("Unexpected token", 8),
+    ("Top rules must have a name", 9),
+    ("Multiple @tokens", 10),
+    ("Multiple precedence", 11),
+    ("Multiple @context", 12),
+    ("Multiple top-level skip", 13),
+    ("Missing @top", 14),
+    ("Inline rules can't have parameters", 15),
+    ("@specialize requires two arguments", 16),
+    ("@extend requires two arguments", 16),
+    ("Empty expression in choice", 17),
+    ("Invalid expression in token precedences", 18),
+    ("Invalid expression in token conflict", 19),
+    ("Invalid character range", 20),
+    ("Overlapping character range", 21),
+];
+
+fn cause(message: &str) -> u32 {
+    MESSAGES
+        .iter()
+        .find(|(beginning, _)| message.starts_with(beginning))
+        .unwrap_or_else(|| panic!("unknown message: {message}"))
+        .1
+}
+
+/// A message ends with `(line:column)`, since no file name was given.
+fn line_column(message: &str) -> (&str, &str) {
+    message
+        .rsplit_once('(')
+        .and_then(|(_, place)| place.strip_suffix(')'))
+        .and_then(|place| place.split_once(':'))
+        .unwrap_or_else(|| panic!("no line and column: {message}"))
+}
+
+fn answer(text: &[u8]) -> String {
+    let Ok(source) = std::str::from_utf8(text) else {
+        return "N".to_owned();
+    };
+    match parse::parse_grammar(source, None) {
+        Err(error) => {
+            let message = error.message();
+            let place = error.position().expect("each error here has a place");
+            let (line, column) = line_column(message);
+            format!("R {} {place} {line} {column}", cause(message))
+        }
+        Ok(grammar) => {
+            let stored = records::of_grammar(&grammar);
+            let words: Vec<String> = stored.words.iter().map(u32::to_string).collect();
+            format!("T {} | {}", words.join(","), to_hex(&stored.texts))
+        }
+    }
+}
+
+fn to_hex(bytes: &[u8]) -> String {
+    let mut hex = String::with_capacity(2 * bytes.len());
+    for byte in bytes {
+        write!(hex, "{byte:02x}").expect("a string takes all");
+    }
+    hex
+}
+
+fn from_hex(line: &str) -> Vec<u8> {
+    assert!(line.len() % 2 == 0, "half a byte: {line}");
+    (0..line.len())
+        .step_by(2)
+        .map(|at| u8::from_str_radix(&line[at..at + 2], 16).expect("hexadecimal"))
+        .collect()
+}
+
+fn run() -> io::Result<()> {
+    let mut out = BufWriter::new(io::stdout().lock());
+    for line in io::stdin().lock().lines() {
+        writeln!(out, "{}", answer(&from_hex(line?.trim_end())))?;
+    }
+    out.flush()
+}
+
+fn main() -> io::Result<()> {
+    // parse_grammar has no limit of levels, so deeply nested texts need a deep stack.
+    std::thread::Builder::new()
+        .stack_size(1 << 30)
+        .spawn(run)?
+        .join()
+        .expect("the oracle does not panic")
+}
