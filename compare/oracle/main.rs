@@ -8,6 +8,10 @@
 //!   hexadecimal;
 //! - `N`: no answer, since a text that is not UTF-8 is no `&str`.
 //!
+//! `oracle compare` takes two texts a line with a space between, both accepted and with a top rule, and
+//! answers with `structurally_eq` of the bodies of their first top rules, after the records of both:
+//! `words|texts|words|texts E 1`, or `E 0`.
+//!
 //! The limits of levels, repeats and bytes are not the Rust's: causes 1, 2 and 3 never appear here.
 
 mod error;
@@ -61,8 +65,9 @@ fn line_column(message: &str) -> (&str, &str) {
         .unwrap_or_else(|| panic!("no line and column: {message}"))
 }
 
-fn answer(text: &[u8]) -> String {
-    let Ok(source) = std::str::from_utf8(text) else {
+fn answer(line: &str) -> String {
+    let text = from_hex(line);
+    let Ok(source) = std::str::from_utf8(&text) else {
         return "N".to_owned();
     };
     match parse::parse_grammar(source, None) {
@@ -74,10 +79,32 @@ fn answer(text: &[u8]) -> String {
         }
         Ok(grammar) => {
             let stored = records::of_grammar(&grammar);
-            let words: Vec<String> = stored.words.iter().map(u32::to_string).collect();
-            format!("T {} | {}", words.join(","), to_hex(&stored.texts))
+            format!("T {} | {}", to_words(&stored.words), to_hex(&stored.texts))
         }
     }
+}
+
+fn to_words(words: &[u32]) -> String {
+    let words: Vec<String> = words.iter().map(u32::to_string).collect();
+    words.join(",")
+}
+
+/// The body of a text's first top rule.
+fn body(text: &str) -> node::Expression {
+    let source = String::from_utf8(from_hex(text)).expect("UTF-8");
+    let mut grammar = parse::parse_grammar(&source, None).expect("an accepted text");
+    grammar.top_rules.swap_remove(0).expression
+}
+
+fn compare(line: &str) -> String {
+    let (left, right) = line.split_once(' ').expect("two texts");
+    let (left, right) = (body(left), body(right));
+    let equal = left.structurally_eq(&right);
+    let [left, right] = [left, right].map(|expression| {
+        let stored = records::of_expression(&expression);
+        format!("{}|{}", to_words(&stored.words), to_hex(&stored.texts))
+    });
+    format!("{left}|{right} E {}", u8::from(equal))
 }
 
 fn to_hex(bytes: &[u8]) -> String {
@@ -97,9 +124,11 @@ fn from_hex(line: &str) -> Vec<u8> {
 }
 
 fn run() -> io::Result<()> {
+    let compares = std::env::args().nth(1).as_deref() == Some("compare");
+    let answer = if compares { compare } else { answer };
     let mut out = BufWriter::new(io::stdout().lock());
     for line in io::stdin().lock().lines() {
-        writeln!(out, "{}", answer(&from_hex(line?.trim_end())))?;
+        writeln!(out, "{}", answer(line?.trim_end()))?;
     }
     out.flush()
 }

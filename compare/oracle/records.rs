@@ -30,7 +30,6 @@ pub fn of_grammar(grammar: &GrammarDeclaration) -> Stored {
 }
 
 /// The records of one expression; the last one is the expression itself.
-#[allow(dead_code)]
 pub fn of_expression(expression: &Expression) -> Stored {
     let mut stored = Stored::default();
     stored.expression(expression);

@@ -8,22 +8,31 @@
 //! - `second again`: an accepted text a line. `1` where its normal text is accepted, agrees with it and
 //!   is its own normal text, else `0`.
 //! - `second read-lend`: `words bytes text`, two lent lengths first. The answer of reading into buffers
-//!   of these lengths whose words and bytes are all `FILL`, and what they then hold:
-//!   `A cause place line column | records | texts`, cause 0 for success.
-//! - `second lend`: `words bytes output text`, three lent lengths first. The answer of reading and
-//!   writing into buffers of these lengths whose words and bytes are all `FILL`, and what they
-//!   then hold: `A cause place line column | records | texts | output`, cause 0 for success.
+//!   of these lengths and what they then hold: `A cause place line column | records | texts`, or
+//!   `A 0 words bytes 0` for success, with how much holds the tree. Before the call word `i` of
+//!   each lent buffer is `1000000 + i`, and byte `i` is the remainder of `i` by 251.
+//! - `second lend`: `words bytes output text`, three lent lengths first. The same for reading and
+//!   writing the normal text: `A .. | records | texts | output`, or `A 0 words bytes output`.
+//! - `second print`: a text a line. What the program `normal` prints.
 //! - `second tree expression` or `second tree grammar`: `words|texts`. `1` for one tree, else `0`.
 //! - `second compare`: `words|texts|words|texts`. `E 0` or `E 1`, or `R 25 0 1 0`.
 
 mod second;
 
-use second::{Refusal, Root};
+use second::{Held, Refusal, Root};
 use std::fmt::Write as _;
 use std::io::{self, BufRead, BufWriter, Write};
 
-/// What lent memory holds before a call.
-const FILL: u8 = 170;
+/// What lent words hold before a call: each its own place, so that no shift goes unseen.
+fn lent_words(length: &str) -> Vec<u32> {
+    let length: u32 = length.parse().expect("a length");
+    (1_000_000..1_000_000 + length).collect()
+}
+
+fn lent_bytes(length: &str) -> Vec<u8> {
+    let length: usize = length.parse().expect("a length");
+    (0..length).map(|place| (place % 251) as u8).collect()
+}
 
 fn to_hex(bytes: &[u8]) -> String {
     let mut hex = String::with_capacity(2 * bytes.len());
@@ -89,36 +98,48 @@ fn again(line: &str) -> String {
     u8::from(holds).to_string()
 }
 
+/// A call's answer: its refusal, or how much of each buffer holds what it gives.
+fn called(text: &[u8], answer: Result<Held, Refusal>) -> String {
+    match answer {
+        Err(refusal) => refused(text, refusal),
+        Ok(held) => format!("0 {} {} {}", held.words, held.texts, held.output),
+    }
+}
+
 fn read_lend(line: &str) -> String {
     let mut parts = line.split(' ');
     let mut part = || parts.next().unwrap_or("");
-    let mut records = vec![u32::from(FILL); part().parse().expect("a length")];
-    let mut texts = vec![FILL; part().parse().expect("a length")];
+    let mut records = lent_words(part());
+    let mut texts = lent_bytes(part());
     let text = from_hex(part());
-    let answer = match second::read_into(&text, &mut records, &mut texts) {
-        Err(refusal) => refused(&text, refusal),
-        Ok(_) => "0 0 1 0".to_owned(),
-    };
-    format!("A {answer} | {} | {}", to_words(&records), to_hex(&texts))
+    let answer = second::read_into(&text, &mut records, &mut texts);
+    format!(
+        "A {} | {} | {}",
+        called(&text, answer),
+        to_words(&records),
+        to_hex(&texts)
+    )
 }
 
 fn lend(line: &str) -> String {
     let mut parts = line.split(' ');
     let mut part = || parts.next().unwrap_or("");
-    let mut records = vec![u32::from(FILL); part().parse().expect("a length")];
-    let mut texts = vec![FILL; part().parse().expect("a length")];
-    let mut output = vec![FILL; part().parse().expect("a length")];
+    let mut records = lent_words(part());
+    let mut texts = lent_bytes(part());
+    let mut output = lent_bytes(part());
     let text = from_hex(part());
-    let answer = match second::normal_into(&text, &mut records, &mut texts, &mut output) {
-        Err(refusal) => refused(&text, refusal),
-        Ok(_) => "0 0 1 0".to_owned(),
-    };
+    let answer = second::normal_into(&text, &mut records, &mut texts, &mut output);
     format!(
-        "A {answer} | {} | {} | {}",
+        "A {} | {} | {} | {}",
+        called(&text, answer),
         to_words(&records),
         to_hex(&texts),
         to_hex(&output)
     )
+}
+
+fn print(line: &str) -> String {
+    to_hex(&second::printed(&from_hex(line)))
 }
 
 /// The stored trees of a line, two parts each.
@@ -156,6 +177,7 @@ fn main() -> io::Result<()> {
         ["again"] => again,
         ["read-lend"] => read_lend,
         ["lend"] => lend,
+        ["print"] => print,
         ["tree", "expression"] => |line| tree(line, Root::Expression),
         ["tree", "grammar"] => |line| tree(line, Root::Grammar),
         ["compare"] => compare,
