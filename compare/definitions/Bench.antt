@@ -33,10 +33,10 @@ data Claim : Type 0 where
   -- 0 or 1, or a refusal
   compares : (leftWords leftTexts rightWords rightTexts answer : List ℕ) → Claim
 
--- n times a byte, and then the rest
-unfoldable times : (n byte : ℕ) → List ℕ → List ℕ
-times zero b bs = bs
-times (suc n) b bs = b ∷ times n b bs
+-- n times a list, and then the rest
+unfoldable times : ℕ → List ℕ → List ℕ → List ℕ
+times zero xs rest = rest
+times (suc n) xs rest = xs ++ times n xs rest
 
 -- lent memory: each word and byte says where it stands, so that no shift goes unseen
 unfoldable lentWords : (n at : ℕ) → List ℕ
