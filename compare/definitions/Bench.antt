@@ -7,6 +7,9 @@ use mathlib.Core.List.{List, [], _∷_, _++_}
 use mathlib.Core.Option.{Option, none, some}
 use lib.Dec.{eqb}
 use Rattle.basics.specs.Basics.{if_then_else_, same}
+use Rattle.characters.specs.Spans.{Span}
+use Rattle.characters.specs.Alphabetic.{spans}
+use Rattle.characters.specs.Classes.{whiteSpace}
 use Rattle.error.specs.Lines.{Refusal, lineFeeds, lineStart, lineAt, columnAt, refusalAt}
 use Rattle.tree.specs.Records.{Branch}
 use Rattle.tree.specs.Syntax.{GrammarDeclaration}
@@ -30,6 +33,8 @@ data Claim : Type 0 where
   prints : (text output : List ℕ) → Claim
   -- words and texts are one tree with an expression as root (1 or 0), with a grammar as root
   isTree : (words texts : List ℕ) → (expression grammar : ℕ) → Claim
+  -- the ends of the spans of Alphabetic, and of White_Space
+  spansAre : (alphabetic white : List ℕ) → Claim
   -- 0 or 1, or a refusal
   compares : (leftWords leftTexts rightWords rightTexts answer : List ℕ) → Claim
 
@@ -46,6 +51,10 @@ lentWords (suc n) at = (1000000 + at) ∷ lentWords n (suc at)
 unfoldable lentBytes : (n at : ℕ) → List ℕ
 lentBytes zero at = []
 lentBytes (suc n) at = (at % 251) ∷ lentBytes n (suc at)
+
+unfoldable ends : List Span → List ℕ
+ends [] = []
+ends (s ∷ ss) = s .first ∷ s .past ∷ ends ss
 
 abbrev refusal : Refusal → List ℕ
 refusal r = r .cause ∷ r .place ∷ r .line ∷ r .column ∷ []
@@ -94,13 +103,14 @@ built (some b) = 1
 unfoldable right : Claim → Bool
 unfolding
   same lineFeeds lineStart lineAt columnAt refusalAt reading grammarWords grammarTexts agree normalText read normal compare printed build
-  bytes times lentWords lentBytes
+  bytes times lentWords lentBytes ends spans whiteSpace
 right (stops s a) = stopsAs s (reading s) a
 right (stores s ws ts n) = storesAs (reading s) ws ts n
 right (reads s w b a ws ts) = readsAs (read s (lentWords w 0) (lentBytes b 0)) a ws ts
 right (writes s w b o a ws ts out) = writesAs (normal s (lentWords w 0) (lentBytes b 0) (lentBytes o 0)) a ws ts out
 right (prints s out) = same (printed s) out
 right (isTree ws ts e g) = eqb (built (build isExpression ws ts)) e && eqb (built (build (eqb 1) ws ts)) g
+right (spansAre alphabetic white) = same (ends spans) alphabetic && same (ends whiteSpace) white
 right (compares lw lt rw rt a) = same (compareAnswer (compare lw lt rw rt)) a
 
 -- the numbers of the claims that are not right
@@ -117,7 +127,7 @@ readingOf text (tree g) = grammarWords g ++ grammarTexts g ++ normalText g
 unfoldable given : Claim → List ℕ
 unfolding
   same lineFeeds lineStart lineAt columnAt refusalAt reading grammarWords grammarTexts agree normalText read normal compare printed build
-  bytes times lentWords lentBytes
+  bytes times lentWords lentBytes ends spans whiteSpace
 given (stops s a) = readingOf s (reading s)
 given (stores s ws ts n) = readingOf s (reading s)
 given (reads s w b a ws ts) =
@@ -128,6 +138,7 @@ given (writes s w b o a ws ts out) =
     normalAnswer (o .answer) ++ o .records ++ o .texts ++ o .output
 given (prints s out) = printed s
 given (isTree ws ts e g) = built (build isExpression ws ts) ∷ built (build (eqb 1) ws ts) ∷ []
+given (spansAre alphabetic white) = ends spans ++ ends whiteSpace
 given (compares lw lt rw rt a) = compareAnswer (compare lw lt rw rt)
 
 unfoldable answers : List Claim → List ℕ

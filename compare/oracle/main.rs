@@ -12,6 +12,10 @@
 //! answers with `structurally_eq` of the bodies of their first top rules, after the records of both:
 //! `words|texts|words|texts E 1`, or `E 0`.
 //!
+//! `oracle classes` reads nothing and prints the spans of all codes for which this toolchain says
+//! `char::is_alphabetic`, on one line and with commas between (first code, code past the last, and
+//! so on), and those of `char::is_whitespace` on a second.
+//!
 //! The limits of levels, repeats and bytes are not the Rust's: causes 1, 2 and 3 never appear here.
 
 mod error;
@@ -123,9 +127,29 @@ fn from_hex(line: &str) -> Vec<u8> {
         .collect()
 }
 
+/// The ends of all spans of codes that have a property.
+fn spans(has: fn(char) -> bool) -> Vec<u32> {
+    let inside = |code: u32| char::from_u32(code).is_some_and(has);
+    (0..0x11_0001)
+        .filter(|&code| inside(code) != (code > 0 && inside(code - 1)))
+        .collect()
+}
+
 fn run() -> io::Result<()> {
-    let compares = std::env::args().nth(1).as_deref() == Some("compare");
-    let answer = if compares { compare } else { answer };
+    let mode = std::env::args().nth(1);
+    let answer = match mode.as_deref() {
+        None => answer,
+        Some("compare") => compare,
+        Some("classes") => {
+            println!("{}", to_words(&spans(char::is_alphabetic)));
+            println!("{}", to_words(&spans(char::is_whitespace)));
+            return Ok(());
+        }
+        Some(_) => {
+            eprintln!("usage: oracle [compare | classes]");
+            std::process::exit(2);
+        }
+    };
     let mut out = BufWriter::new(io::stdout().lock());
     for line in io::stdin().lock().lines() {
         writeln!(out, "{}", answer(line?.trim_end()))?;
