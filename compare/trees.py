@@ -38,6 +38,100 @@ def subtrees(words, texts):
     return found
 
 
+def records(*rows):
+    """Words of rows that are given as kind, text place, text length, value, second, children."""
+    return [word for kind, *rest in rows for word in (kind, 9, *rest)]
+
+
+ANY = (39, 0, 0, 0, 0, 0)
+
+
+def span(first, past):
+    return (38, 0, 0, first, past, 0)
+
+
+# Each rule of what is one tree, with something that meets it and something that just does not.
+HAND = [
+    ([], b""),
+    ([], b"x"),
+    ([39], b""),
+    (records(ANY), b""),
+    (records(ANY)[:-1], b""),
+    (records(ANY) + [0], b""),
+    (records(ANY, ANY), b""),
+    # bytes after the last text, and too few of them
+    (records(ANY), b"more"),
+    (records((30, 0, 2, 0, 0, 0)), b"ab"),
+    (records((30, 0, 2, 0, 0, 0)), b"abc"),
+    (records((30, 0, 2, 0, 0, 0)), b"a"),
+    # any bytes, and none: an empty text has place 0
+    (records((30, 0, 2, 0, 0, 0)), b"\xff\x00"),
+    (records((30, 0, 0, 0, 0, 0)), b"a"),
+    (records((30, 1, 0, 0, 0, 0)), b"a"),
+    (records((36, 0, 0, 0, 0, 0)), b""),
+    # a text where there is none, or at another place
+    (records((39, 0, 1, 0, 0, 0)), b"a"),
+    (records((30, 1, 1, 0, 0, 0)), b"ab"),
+    (records((30, 0, 1, 0, 0, 0), (30, 1, 1, 0, 0, 1)), b"ab"),
+    (records((30, 0, 1, 0, 0, 0), (30, 0, 1, 0, 0, 1)), b"ab"),
+    (records((30, 4294967295, 1, 0, 0, 0)), b"a"),
+    (records((30, 0, 4294967295, 0, 0, 0)), b"a"),
+    # lists of any length
+    (records((33, 0, 0, 0, 0, 0)), b""),
+    (records(ANY, (33, 0, 0, 0, 0, 1)), b""),
+    (records((34, 0, 0, 0, 0, 0)), b""),
+    (records(ANY, (34, 0, 0, 0, 0, 1)), b""),
+    (records((41, 0, 1, 0, 0, 0), ANY, (42, 1, 1, 0, 0, 0), (34, 0, 0, 0, 0, 3)), b"ab"),
+    (records((34, 0, 0, 1, 0, 0)), b""),
+    (records(ANY, (34, 0, 0, 1, 0, 1)), b""),
+    (records((34, 0, 0, 2, 0, 0)), b""),
+    # spans
+    (records((37, 0, 0, 1, 0, 0)), b""),
+    (records(span(5, 6), (37, 0, 0, 0, 0, 1)), b""),
+    (records(span(5, 5), (37, 0, 0, 0, 0, 1)), b""),
+    (records(span(6, 5), (37, 0, 0, 0, 0, 1)), b""),
+    (records(span(0, 1114112), (37, 0, 0, 0, 0, 1)), b""),
+    (records(span(0, 1114113), (37, 0, 0, 0, 0, 1)), b""),
+    (records(span(7, 9), span(1, 8), (37, 0, 0, 0, 0, 2)), b""),
+    (records(ANY, (37, 0, 0, 0, 0, 1)), b""),
+    # fixed numbers of expressions
+    (records((35, 0, 0, 1, 0, 0)), b""),
+    (records(ANY, (35, 0, 0, 2, 0, 1)), b""),
+    (records(ANY, (35, 0, 0, 3, 0, 1)), b""),
+    (records(ANY, ANY, (35, 0, 0, 1, 0, 2)), b""),
+    (records(ANY, (31, 0, 0, 1, 0, 1)), b""),
+    (records(ANY, ANY, (31, 0, 0, 2, 0, 2)), b""),
+    (records(ANY, ANY, (31, 0, 0, 0, 0, 2)), b""),
+    (records(ANY, ANY, (31, 0, 0, 3, 0, 2)), b""),
+    (records(ANY, ANY, ANY, (31, 0, 0, 1, 0, 3)), b""),
+    (records((5, 0, 1, 1, 0, 0), ANY, ANY, (31, 0, 0, 1, 0, 3)), b"p"),
+    (records(ANY, (5, 0, 1, 1, 0, 0), ANY, (31, 0, 0, 1, 0, 3)), b"p"),
+    (records((32, 0, 1, 0, 0, 0)), b"n"),
+    (records(ANY, (32, 0, 1, 0, 0, 1)), b"n"),
+    (records((5, 0, 1, 2, 0, 0), ANY, (32, 1, 1, 0, 0, 2)), b"pn"),
+    (records((6, 0, 1, 0, 0, 0), (7, 1, 1, 0, 0, 0), (5, 2, 1, 0, 0, 2), ANY, (32, 3, 1, 0, 0, 2)), b"abcd"),
+    # values, zero words, kinds, and roots that are no expressions
+    (records((40, 0, 0, 5, 0, 0)), b""),
+    (records((40, 0, 0, 6, 0, 0)), b""),
+    (records((39, 0, 0, 1, 0, 0)), b""),
+    (records((39, 0, 0, 0, 1, 0)), b""),
+    *((records((kind, 0, 0, 0, 0, 0)), b"") for kind in [0, 1, 4, 5, 15, 24, 26, 27, 28, 29, 41, 42, 43, 4294967295]),
+    (records(span(1, 2)), b""),
+    (records((39, 0, 0, 0, 0, 1)), b""),
+    (records((39, 0, 0, 0, 0, 4294967295)), b""),
+    # grammars: groups in their order, a fallback at most once
+    (records(ANY, (2, 0, 1, 0, 0, 1), (1, 0, 0, 1, 0, 1)), b"T"),
+    (records(ANY, (2, 0, 1, 0, 0, 1), (1, 0, 0, 2, 0, 1)), b"T"),
+    (records(ANY, (3, 0, 1, 0, 0, 1), ANY, (2, 1, 1, 0, 0, 1), (1, 0, 0, 0, 0, 2)), b"rT"),
+    (records(ANY, (2, 0, 1, 0, 0, 1), ANY, (3, 1, 1, 0, 0, 1), (1, 0, 0, 0, 0, 2)), b"Tr"),
+    (records((13, 0, 1, 0, 0, 0), (12, 0, 0, 0, 0, 1), (1, 0, 0, 0, 0, 1)), b"n"),
+    (records((13, 0, 1, 0, 0, 0), (13, 1, 1, 0, 0, 0), (12, 0, 0, 0, 0, 2), (1, 0, 0, 0, 0, 1)), b"nm"),
+    (records((8, 0, 0, 0, 0, 0), (8, 0, 0, 0, 0, 0), (1, 0, 0, 0, 0, 2)), b""),
+    (records((36, 0, 1, 0, 0, 0), (10, 0, 0, 0, 0, 1), (8, 0, 0, 0, 0, 1), (1, 0, 0, 0, 0, 1)), b"a"),
+    (records(ANY, ANY, (10, 0, 0, 0, 0, 2), (8, 0, 0, 0, 0, 1), (1, 0, 0, 0, 0, 1)), b""),
+]
+
+
 def accepted(seed, count, longest=160):
     """Accepted texts with their trees."""
     found = []
@@ -136,7 +230,7 @@ def tested(seed, count):
     """Trees and what is nearly one, with expressions, grammars and anything else as root."""
     rng = random.Random(seed)
     expressions, grammars, others = branches(seed, 10)
-    found = [([], b""), ([], b"x"), ([39], b"")]
+    found = list(HAND)
     while len(found) < count:
         roll = rng.random()
         tree = rng.choice(expressions if roll < 0.5 else grammars if roll < 0.95 else others)

@@ -12,7 +12,8 @@ use Rattle.characters.specs.Alphabetic.{spans}
 use Rattle.characters.specs.Classes.{whiteSpace}
 use Rattle.error.specs.Lines.{Refusal, lineFeeds, lineStart, lineAt, columnAt, refusalAt}
 use Rattle.tree.specs.Records.{Branch}
-use Rattle.tree.specs.Syntax.{GrammarDeclaration}
+use Rattle.tree.specs.Syntax.{CharClass, asciiLetter, asciiLowercase, asciiUppercase, digit, whitespace, eof, GrammarDeclaration}
+use Rattle.tree.specs.CharClasses.{ranges}
 use Rattle.tree.specs.Stored.{grammarWords, grammarTexts}
 use Rattle.tree.specs.OneTree.{isExpression, build}
 use Rattle.tree.specs.Equality.{agree}
@@ -33,8 +34,8 @@ data Claim : Type 0 where
   prints : (text output : List ℕ) → Claim
   -- words and texts are one tree with an expression as root (1 or 0), with a grammar as root
   isTree : (words texts : List ℕ) → (expression grammar : ℕ) → Claim
-  -- the ends of the spans of Alphabetic, and of White_Space
-  spansAre : (alphabetic white : List ℕ) → Claim
+  -- the ends of the spans of Alphabetic, of White_Space, and of the six classes one after another, each ended by 0
+  spansAre : (alphabetic white classes : List ℕ) → Claim
   -- 0 or 1, or a refusal
   compares : (leftWords leftTexts rightWords rightTexts answer : List ℕ) → Claim
 
@@ -56,6 +57,14 @@ unfoldable ends : List Span → List ℕ
 ends [] = []
 ends (s ∷ ss) = s .first ∷ s .past ∷ ends ss
 
+unfoldable classEnds : List CharClass → List ℕ
+unfolding ends ranges
+classEnds [] = []
+classEnds (c ∷ cs) = ends (ranges c) ++ (0 ∷ classEnds cs)
+
+abbrev classes : List CharClass
+classes = asciiLetter ∷ asciiLowercase ∷ asciiUppercase ∷ digit ∷ whitespace ∷ eof ∷ []
+
 abbrev refusal : Refusal → List ℕ
 refusal r = r .cause ∷ r .place ∷ r .line ∷ r .column ∷ []
 
@@ -65,12 +74,13 @@ abbrev stopsAs : List ℕ → Reading → List ℕ → Bool
 stopsAs text (stopped n p) answer = same (refusal (refusalAt text n p)) answer
 stopsAs text (tree g) answer = false
 
-abbrev again : GrammarDeclaration ℕ → Reading → Bool
-again g (tree h) = agree g h && same (normalText g) (normalText h)
-again g (stopped n p) = false
+-- the tree of the normal text n of g
+abbrev again : (n : List ℕ) → GrammarDeclaration ℕ → Reading → Bool
+again n g (tree h) = agree g h && same (normalText h) n
+again n g (stopped c p) = false
 
 abbrev storesAs : Reading → (words texts normal : List ℕ) → Bool
-storesAs (tree g) ws ts n = same (grammarWords g) ws && same (grammarTexts g) ts && same (normalText g) n && again g (reading (normalText g))
+storesAs (tree g) ws ts n = same (grammarWords g) ws && same (grammarTexts g) ts && same (normalText g) n && again n g (reading n)
 storesAs (stopped c p) ws ts n = false
 
 -- ------------------------------------------------------------------ calls
@@ -103,14 +113,14 @@ built (some b) = 1
 unfoldable right : Claim → Bool
 unfolding
   same lineFeeds lineStart lineAt columnAt refusalAt reading grammarWords grammarTexts agree normalText read normal compare printed build
-  bytes times lentWords lentBytes ends spans whiteSpace
+  bytes times lentWords lentBytes ends spans whiteSpace classEnds
 right (stops s a) = stopsAs s (reading s) a
 right (stores s ws ts n) = storesAs (reading s) ws ts n
 right (reads s w b a ws ts) = readsAs (read s (lentWords w 0) (lentBytes b 0)) a ws ts
 right (writes s w b o a ws ts out) = writesAs (normal s (lentWords w 0) (lentBytes b 0) (lentBytes o 0)) a ws ts out
 right (prints s out) = same (printed s) out
 right (isTree ws ts e g) = eqb (built (build isExpression ws ts)) e && eqb (built (build (eqb 1) ws ts)) g
-right (spansAre alphabetic white) = same (ends spans) alphabetic && same (ends whiteSpace) white
+right (spansAre alphabetic white cs) = same (ends spans) alphabetic && same (ends whiteSpace) white && same (classEnds classes) cs
 right (compares lw lt rw rt a) = same (compareAnswer (compare lw lt rw rt)) a
 
 -- the numbers of the claims that are not right
@@ -127,7 +137,7 @@ readingOf text (tree g) = grammarWords g ++ grammarTexts g ++ normalText g
 unfoldable given : Claim → List ℕ
 unfolding
   same lineFeeds lineStart lineAt columnAt refusalAt reading grammarWords grammarTexts agree normalText read normal compare printed build
-  bytes times lentWords lentBytes ends spans whiteSpace
+  bytes times lentWords lentBytes ends spans whiteSpace classEnds
 given (stops s a) = readingOf s (reading s)
 given (stores s ws ts n) = readingOf s (reading s)
 given (reads s w b a ws ts) =
@@ -138,7 +148,7 @@ given (writes s w b o a ws ts out) =
     normalAnswer (o .answer) ++ o .records ++ o .texts ++ o .output
 given (prints s out) = printed s
 given (isTree ws ts e g) = built (build isExpression ws ts) ∷ built (build (eqb 1) ws ts) ∷ []
-given (spansAre alphabetic white) = ends spans ++ ends whiteSpace
+given (spansAre alphabetic white cs) = ends spans ++ ends whiteSpace ++ classEnds classes
 given (compares lw lt rw rt a) = compareAnswer (compare lw lt rw rt)
 
 unfoldable answers : List Claim → List ℕ

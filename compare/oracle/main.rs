@@ -14,7 +14,8 @@
 //!
 //! `oracle classes` reads nothing and prints the spans of all codes for which this toolchain says
 //! `char::is_alphabetic`, on one line and with commas between (first code, code past the last, and
-//! so on), and those of `char::is_whitespace` on a second.
+//! so on), those of `char::is_whitespace` on a second, and `CharClass::ranges` of the six classes on a
+//! third, each ended by 0.
 //!
 //! The limits of levels, repeats and bytes are not the Rust's: causes 1, 2 and 3 never appear here.
 
@@ -135,6 +136,16 @@ fn spans(has: fn(char) -> bool) -> Vec<u32> {
         .collect()
 }
 
+fn class_ranges() -> Vec<u32> {
+    use node::CharClass::{AsciiLetter, AsciiLowercase, AsciiUppercase, Digit, Eof, Whitespace};
+    let mut ends = Vec::new();
+    for class in [AsciiLetter, AsciiLowercase, AsciiUppercase, Digit, Whitespace, Eof] {
+        ends.extend(class.ranges().iter().flat_map(|&(first, past)| [first, past]));
+        ends.push(0);
+    }
+    ends
+}
+
 fn run() -> io::Result<()> {
     let mode = std::env::args().nth(1);
     let answer = match mode.as_deref() {
@@ -143,6 +154,7 @@ fn run() -> io::Result<()> {
         Some("classes") => {
             println!("{}", to_words(&spans(char::is_alphabetic)));
             println!("{}", to_words(&spans(char::is_whitespace)));
+            println!("{}", to_words(&class_ranges()));
             return Ok(());
         }
         Some(_) => {
