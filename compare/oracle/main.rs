@@ -139,8 +139,20 @@ fn spans(has: fn(char) -> bool) -> Vec<u32> {
 fn class_ranges() -> Vec<u32> {
     use node::CharClass::{AsciiLetter, AsciiLowercase, AsciiUppercase, Digit, Eof, Whitespace};
     let mut ends = Vec::new();
-    for class in [AsciiLetter, AsciiLowercase, AsciiUppercase, Digit, Whitespace, Eof] {
-        ends.extend(class.ranges().iter().flat_map(|&(first, past)| [first, past]));
+    for class in [
+        AsciiLetter,
+        AsciiLowercase,
+        AsciiUppercase,
+        Digit,
+        Whitespace,
+        Eof,
+    ] {
+        ends.extend(
+            class
+                .ranges()
+                .iter()
+                .flat_map(|&(first, past)| [first, past]),
+        );
         ends.push(0);
     }
     ends
