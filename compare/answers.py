@@ -1,0 +1,40 @@
+"""Runs the oracle and the second program on texts."""
+
+import subprocess
+from pathlib import Path
+
+ROOT = Path(__file__).resolve().parent.parent
+TARGET = ROOT / "target" / "compare"
+
+
+def build(folder):
+    subprocess.run([str(ROOT / "compare" / "build"), str(folder)], check=True)
+
+
+def lines(program, *arguments, given):
+    """One answer for each given line."""
+    command = [str(TARGET / "bin" / program), *arguments]
+    joined = "".join(line + "\n" for line in given)
+    done = subprocess.run(command, input=joined, capture_output=True, text=True, check=True)
+    answers = done.stdout.split("\n")[:-1]
+    assert len(answers) == len(given), (program, len(answers), len(given))
+    return answers
+
+
+def oracle(texts):
+    return lines("oracle", given=[text.hex() for text in texts])
+
+
+def second(texts, mode="read"):
+    return lines("second", mode, given=[text.hex() for text in texts])
+
+
+def unanswered(answer):
+    """Whether the second program's answer is a cause that the oracle does not know."""
+    return answer.split(" ")[:2] in (["R", "1"], ["R", "2"], ["R", "3"])
+
+
+def differing(texts):
+    """The texts on which oracle and second program differ, with both answers."""
+    pairs = zip(texts, oracle(texts), second(texts))
+    return [(text, one, two) for text, one, two in pairs if one != two and not unanswered(two)]
