@@ -228,7 +228,7 @@ fn sets(random: &mut Random, count: u64) -> u64 {
         set(&mut tally, &body(random));
     }
     // Sets of many blocks: sound, with two equal characters far apart, and with a reversed span before or after them.
-    for n in [255, 256, 257, 511, 512, 513, 1000, 3000] {
+    for n in [15, 16, 17, 255, 256, 257, 512, 513, 3000] {
         for order in 0..3 {
             let chars = distinct(n, order);
             let sound: String = chars.iter().collect();

@@ -1,17 +1,17 @@
 -- A token that is written out, with white space after it, is read back.
 -- Assumes nothing.
-use mathlib.Core.Path.{_≡_, refl, sym, _∙_, ap, ap₂, subst}
-use mathlib.Core.Bool.{Bool, true, false, _&&_, _||_, not, and-false}
+use mathlib.Core.Path.{_≡_, refl, sym, _∙_, ap, subst}
+use mathlib.Core.Bool.{Bool, true, false, _&&_, not, and-false}
 use mathlib.Core.List.{List, [], _∷_, _++_, append-assoc}
-use mathlib.Core.Option.{Option, none, some}
+use mathlib.Core.Option.{some}
 use Prim.Native.Nat.{ℕ, zero, suc, _+_, _-_, _≤_, _<_}
 use native.Mathlib.Omega.{arith}
 use native.Mathlib.Decide.{decLt}
 use lib.Dec.{eqb, leb, ltb}
-use lib.ListN.{length, take, drop, length-append}
+use lib.ListN.{length, take, length-append}
 use lib.Seq.{take-append-seam, drop-append-seam}
 use borrow.Author.Tests.{eq-eqb, ne-eqb, eqb-true, not-true, leb-true, ltb-true}
-use Rattle.basics.specs.Basics.{if_then_else_, letters, is, among, head, every}
+use Rattle.basics.specs.Basics.{letters, is, among, every}
 use Rattle.basics.proofs.Tests.{cases, both-true}
 use Rattle.characters.specs.Utf8.{width}
 use Rattle.characters.specs.Places.{past, run}
@@ -19,7 +19,7 @@ use Rattle.characters.specs.Spans.{Span, inSpan, inSpans}
 use Rattle.characters.specs.Alphabetic.{isAlphabetic, spans}
 use Rattle.characters.specs.Classes.{whiteSpace, isWhitespace, isEcmascriptWhitespace, isLineTerminator, isPunctuation, isWord}
 use Rattle.characters.proofs.Runs.{run-yes, run-no}
-use Rattle.lexer.specs.Tokens.{Kind, string, at, set, name, mark, more, body, never, Piece, stringOf, setOf, atOf, solid, piece, Tokens, lay, tokensFrom}
+use Rattle.lexer.specs.Tokens.{Kind, string, at, set, name, mark, more, body, never, stringOf, setOf, atOf, solid, piece, Tokens, tokensFrom}
 use Rattle.lexer.specs.Tokens as T
 use Rattle.lexer.proofs.Tokens.{body-end, body-on, escaped-on, tokens-skip}
 

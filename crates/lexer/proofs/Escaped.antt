@@ -1,17 +1,16 @@
 -- How the definitions of specs/Escapes go on at a place of a text.
 -- Assumes nothing.
-use mathlib.Core.Path.{_≡_, refl, sym, _∙_, ap, ap₂, subst}
-use mathlib.Core.Bool.{Bool, true, false, _&&_, _||_, not}
+use mathlib.Core.Path.{_≡_, refl, sym, _∙_, ap, subst}
+use mathlib.Core.Bool.{Bool, true, false, _&&_, not}
 use mathlib.Core.List.{List, [], _∷_, map}
 use mathlib.Core.Logic.{_⊎_, inl, inr, ⊎-elim}
 use mathlib.Core.Option.{Option, none, some}
 use Prim.Native.Nat.{ℕ, zero, suc, _+_, _-_, _*_, _/_, _≤_, _<_}
 use native.Mathlib.Omega.{arith}
-use lib.Dec.{eqb, ltb, leb}
-use native.Mathlib.Decide.{decLt}
-use lib.ListN.{length, take, drop, length-append}
-use borrow.Author.Tests.{lt-ltb, le-ltb, le-leb, eq-eqb, ne-eqb, eqb-true, leb-true, ltb-true}
-use Rattle.basics.specs.Basics.{within, if_then_else_, is, among, letters, head}
+use lib.Dec.{eqb}
+use lib.ListN.{length, drop, length-append}
+use borrow.Author.Tests.{le-ltb, le-leb, eq-eqb, ne-eqb}
+use Rattle.basics.specs.Basics.{if_then_else_, is, among, letters, head}
 use Rattle.characters.specs.Places.{decodeAt, past, charsAt, peekAt}
 use Rattle.characters.specs.Utf8.{codes, encodeAll, width, encode, isScalar}
 use Rattle.characters.specs.Promise.{Next, written, writtenAll, scalarBytes}
@@ -21,15 +20,13 @@ use Rattle.characters.specs.declared.Char.{Char}
 use Rattle.characters.specs.declared.Char.the-variants.{Scalar, Ill}
 use Rattle.characters.proofs.Laws.{scalar-fits}
 use Rattle.basics.proofs.Tests.{within-true}
-use Rattle.characters.proofs.Heads.{Stands}
-use Rattle.characters.proofs.Chars.{codes-on, codes-off, stands-at, Run, run-at, next-of, peek-on, next-head}
+use Rattle.characters.proofs.Chars.{codes-on, codes-off, stands-at, run-at, peek-on, next-head}
 use Rattle.lexer.specs.Escapes.{hexDigit, Escape, further, scalar, fixed, untilBrace, braced, orElse, orLetter, control, escape, escapedBy, atomsFrom, atoms, decodeString}
 use Rattle.lexer.specs.Promise.{digitOf, hexAt, bracedAt, untilAt, fixedAt, Takes, atomsAt, atomAnswer, AtomPlaced, valueAt, ReadsAtom}
 use Rattle.lexer.specs.declared.escapes.Digit.the-variants.{Is, No}
 use Rattle.lexer.specs.declared.escapes.Atom.{Atom}
 use Rattle.lexer.specs.declared.escapes.Atom.the-variants.{One, End}
 use Rattle.lexer.specs.Escapes as E
-use Rattle.lexer.specs.declared.escapes.Hex.{Hex}
 use Rattle.lexer.specs.declared.escapes.Hex.the-variants.{Code, Not}
 
 if-cases {ℓ κ} : {A : Type ℓ} (P : A → Type κ) (b : Bool) {x y : A} → (b ≡ true → P x) → (b ≡ false → P y) → P (if b then x else y)

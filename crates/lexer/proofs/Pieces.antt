@@ -1,28 +1,26 @@
 -- The answers for the pieces of a text.
 -- Assumes nothing.
 use mathlib.Core.Path.{_≡_, refl, sym, _∙_, ap, ap₂, subst}
-use mathlib.Core.Bool.{Bool, true, false, _&&_, _||_, not}
-use mathlib.Core.List.{List, [], _∷_}
+use mathlib.Core.Bool.{Bool, true, false, _&&_}
+use mathlib.Core.List.{List, _∷_}
 use mathlib.Core.Option.{Option, none, some}
 use Prim.Native.Nat.{ℕ, zero, suc, _+_, _-_, _≤_, _<_}
 use native.Mathlib.Omega.{arith}
-use lib.Dec.{eqb}
 use native.Mathlib.Decide.{decLt}
 use lib.ListN.{length, take, drop}
-use borrow.Author.Tests.{eq-eqb, ne-eqb, eqb-true}
+use borrow.Author.Tests.{ne-eqb, eqb-true}
 use Rattle.characters.specs.Places.{decodeAt, past, charsAt, peekAt, run}
-use Rattle.characters.specs.Utf8.{codes, width}
+use Rattle.characters.specs.Utf8.{width}
 use Rattle.characters.specs.Promise.{Next, runEnd}
 use Rattle.characters.specs.declared.Char.{Char}
 use Rattle.characters.specs.declared.Char.the-variants.{Scalar, Ill}
 use Rattle.characters.proofs.Laws.{scalar-fits}
-use Rattle.characters.proofs.Heads.{Stands}
-use Rattle.characters.proofs.Chars.{codes-on, codes-off, stands-at, Run, run-at, peek-on, next-head}
+use Rattle.characters.proofs.Chars.{codes-on, codes-off, stands-at, Run, run-at, next-head}
 use Rattle.characters.proofs.Encode.{ascii-wide}
-use Rattle.basics.specs.Basics.{if_then_else_, is, among, letters, head}
-use Rattle.characters.specs.Classes.{isEcmascriptWhitespace, isLineTerminator, isPunctuation, isWord}
-use Rattle.lexer.specs.Tokens.{more, comment, body, never, Piece, commentOf, stringOf, setOf, atOf, solid, piece, Tokens, lay, tokensFrom}
-use Rattle.lexer.specs.Promise.{opensSet, tokensAt, foundAt, endOf, Settled, Skipped, partOf, Part, Lexes, Reads}
+use Rattle.basics.specs.Basics.{is, among, letters}
+use Rattle.characters.specs.Classes.{isLineTerminator, isPunctuation, isWord}
+use Rattle.lexer.specs.Tokens.{body, never, Piece, stringOf, setOf, atOf, solid, Tokens, tokensFrom}
+use Rattle.lexer.specs.Promise.{opensSet, tokensAt, foundAt, endOf, Settled, Skipped, Part, Lexes, Reads}
 use Rattle.lexer.specs.declared.Found.the-variants.{At, Missing}
 use Rattle.lexer.specs.declared.Trivia.{Trivia}
 use Rattle.lexer.specs.declared.Trivia.the-variants.{Clear, Unclosed}
@@ -31,7 +29,7 @@ use Rattle.lexer.specs.declared.Kind.the-variants.{String, Set, Punctuat
 use Rattle.lexer.specs.declared.Lexed.{Lexed}
 use Rattle.lexer.specs.declared.Lexed.the-variants.{Token, Eof, Refused}
 use Rattle.lexer.proofs.Tokens.{tokens-at, tokens-next, tokens-piece}
-use Rattle.characters.proofs.Runs.{run-yes, run-no, run-on}
+use Rattle.characters.proofs.Runs.{run-no, run-on}
 use Rattle.lexer.specs.declared.Kind.the-variants as K
 use Rattle.lexer.specs.Tokens as T
 use Rattle.error.specs.Causes.{unexpectedCharacter}

@@ -1,22 +1,22 @@
 -- How the spans of a body go on at a place.
 -- Assumes nothing.
-use mathlib.Core.Path.{_≡_, refl, sym, _∙_, ap, subst}
-use mathlib.Core.Bool.{Bool, true, false, _&&_, not, and-false}
+use mathlib.Core.Path.{_≡_, refl, _∙_, ap, subst}
+use mathlib.Core.Bool.{Bool, true, false, not, and-false}
 use mathlib.Core.List.{List, [], _∷_}
-use mathlib.Core.Option.{Option, none, some}
+use mathlib.Core.Option.{none}
 use Prim.Native.Nat.{ℕ, suc, _+_, _≤_, _<_}
 use native.Mathlib.Omega.{arith}
 use lib.Dec.{eqb}
 use lib.ListN.{length}
 use borrow.Author.Tests.{ne-eqb}
-use Rattle.basics.specs.Basics.{if_then_else_, is}
+use Rattle.basics.specs.Basics.{is}
 use Rattle.basics.proofs.Tests.{cases}
 use Rattle.characters.specs.Utf8.{codes}
 use Rattle.characters.specs.Places.{decodeAt, charsAt, peekAt}
 use Rattle.characters.specs.declared.Char.{Char}
 use Rattle.characters.specs.declared.Char.the-variants.{Scalar, Ill}
 use Rattle.characters.proofs.Chars.{codes-on, codes-off, peek-on, next-head}
-use Rattle.characters.specs.Spans.{Span, _upto_}
+use Rattle.characters.specs.Spans.{_upto_}
 use Rattle.characters.proofs.Encode.{scalar-top, width-some}
 use Rattle.lexer.specs.Escapes.{Atom, escape, escapedBy, atomsFrom}
 use Rattle.lexer.specs.Sets.{dash, rangeEnd, written, spans}

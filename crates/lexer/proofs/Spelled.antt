@@ -1,16 +1,16 @@
 -- Words compared by their bytes, and by their characters.
 -- Assumes nothing.
 use mathlib.Core.Path.{_≡_, refl, sym, _∙_, ap, ap₂, subst}
-use mathlib.Core.Bool.{Bool, true, false, _&&_}
-use mathlib.Core.List.{List, [], _∷_, _++_}
-use Prim.Native.Nat.{ℕ, _<_}
+use mathlib.Core.Bool.{Bool, true, false}
+use mathlib.Core.List.{List, [], _∷_}
+use Prim.Native.Nat.{ℕ}
 use native.Mathlib.Omega.{arith}
 use lib.Dec.{eqb, ltb}
 use borrow.Author.Tests.{eq-eqb, eqb-true, ltb-true}
-use Rattle.basics.specs.Basics.{same, every, letters}
+use Rattle.basics.specs.Basics.{same, every}
 use Rattle.basics.proofs.Tests.{cases, both-true}
-use Rattle.characters.specs.Utf8.{encode, encodeAll, codes}
-use Rattle.characters.proofs.Encode.{IsScalar, scalar-low, encode-1}
+use Rattle.characters.specs.Utf8.{encodeAll, codes}
+use Rattle.characters.proofs.Encode.{scalar-low, encode-1}
 use Rattle.characters.proofs.Chars.{Scalars, none-left, one-more, codes-all}
 
 -- ------------------------------------------------------------------ `same` is equality

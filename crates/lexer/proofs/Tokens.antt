@@ -1,30 +1,26 @@
 -- How the definitions of specs/Tokens go on at a place of a text.
 -- Assumes nothing.
-use mathlib.Core.Path.{_≡_, refl, sym, _∙_, ap, ap₂, subst}
-use mathlib.Core.Bool.{Bool, true, false, _&&_, _||_, not, and-false}
+use mathlib.Core.Path.{_≡_, refl, sym, _∙_, ap, subst}
+use mathlib.Core.Bool.{Bool, true, false, _&&_, not, and-false}
 use mathlib.Core.List.{List, [], _∷_}
 use mathlib.Core.Option.{Option, none, some}
 use Prim.Native.Nat.{ℕ, zero, suc, _+_, _-_, _≤_, _<_}
 use native.Mathlib.Omega.{arith}
-use native.Mathlib.Nat.{not-suc-le-zero}
-use lib.Dec.{eqb, ltb}
-use lib.ListN.{length, getD, take, drop}
-use borrow.Author.Tests.{lt-ltb, eq-eqb, ne-eqb}
+use lib.Dec.{eqb}
+use lib.ListN.{length, drop}
+use borrow.Author.Tests.{eq-eqb, ne-eqb}
 use Rattle.characters.specs.Places.{decodeAt, past, charsAt, peekAt, run}
-use Rattle.characters.specs.Utf8.{encode, codes, codesFrom, width}
+use Rattle.characters.specs.Utf8.{width}
 use Rattle.characters.specs.Promise.{Next, runEnd}
-use Rattle.characters.specs.declared.Char.{Char}
 use Rattle.characters.specs.declared.Char.the-variants.{Scalar, Ill}
-use Rattle.characters.proofs.Laws.{scalar-fits}
-use Rattle.characters.proofs.Heads.{Stands}
-use Rattle.characters.proofs.Chars.{codes-on, codes-off, stands-at, Run, run-at, next-of, peek-on, next-head}
+use Rattle.characters.proofs.Chars.{codes-on, codes-off, stands-at, run-at, next-of, peek-on, next-head}
 use Rattle.characters.proofs.Encode.{ascii-wide}
 use Rattle.error.specs.Causes.{unexpectedCharacter}
-use Rattle.basics.specs.Basics.{if_then_else_, is, among, letters, head}
-use Rattle.characters.specs.Classes.{isWhitespace, whiteSpace, isEcmascriptWhitespace, isLineTerminator, isPunctuation, isWord}
+use Rattle.basics.specs.Basics.{is, head}
+use Rattle.characters.specs.Classes.{isWhitespace, whiteSpace, isEcmascriptWhitespace, isLineTerminator}
 use Rattle.characters.specs.Spans.{inSpans}
-use Rattle.lexer.specs.Tokens.{more, comment, body, never, Piece, commentOf, stringOf, setOf, atOf, solid, piece, Tokens, lay, tokensFrom}
-use Rattle.lexer.specs.Promise.{tokensAt, foundAt, endOf, Settled, Skipped, partOf, Part}
+use Rattle.lexer.specs.Tokens.{more, comment, body, commentOf, piece, Tokens, lay, tokensFrom}
+use Rattle.lexer.specs.Promise.{tokensAt, foundAt, endOf, Settled}
 use Rattle.lexer.specs.declared.Found.the-variants.{At, Missing}
 use Rattle.lexer.specs.Tokens as T
 

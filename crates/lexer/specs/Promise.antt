@@ -268,16 +268,20 @@ storedBy (some c) ss out = out
 unfoldable pub stored : List Span → List ℕ → List ℕ
 stored ss out = storedBy (fault ss) ss out
 
+-- the first n spans of a body, up to a place, stand in a block, and there are more
+abbrev pub FirstBlock : (s block : List ℕ) → (n end : ℕ) → Type 0
+FirstBlock s block n end = Fills s 0 block (B.Full n end)
+
 -- the first m words laid over others, where they fit
 unfoldable pub copied : ℕ → List ℕ → List ℕ → List ℕ
 copied m ws out = if leb m (length out) then take m ws ++ drop m out else out
 
 -- a set whose spans fit one block is done with; of any other nothing is stored
-abbrev pub Parses : List Span → (out after : List ℕ) → Filled → Type 0
-Parses ss out after (B.Full n end) = after ≡ out
-Parses ss out after (B.All n) = Checks ss (Sound n) × (after ≡ stored ss out)
-Parses ss out after B.Reversed = Checks ss Reversed × (after ≡ stored ss out)
-Parses ss out after B.Overlapping = Checks ss Overlapping × (after ≡ stored ss out)
+abbrev pub Parses : (s out after block : List ℕ) → Filled → Type 0
+Parses s out after block (B.Full n end) = (after ≡ out) × FirstBlock s block n end
+Parses s out after block (B.All n) = Checks (spansAt s 0) (Sound n) × (after ≡ stored (spansAt s 0) out)
+Parses s out after block B.Reversed = Checks (spansAt s 0) Reversed × (after ≡ stored (spansAt s 0) out)
+Parses s out after block B.Overlapping = Checks (spansAt s 0) Overlapping × (after ≡ stored (spansAt s 0) out)
 
 -- ------------------------------------------------------------------ words
 

@@ -1,7 +1,7 @@
 -- `lexer::lex` meets its contract. Assumes nothing.
 use borrow.Author.Needs.{needs}
 use native.Mathlib.Omega.{arith}
-use mathlib.Core.Path.{_≡_, refl, sym, _∙_, ap, subst}
+use mathlib.Core.Path.{refl, sym, _∙_, subst}
 use Rattle.characters.specs.Promise.{Next}
 use Rattle.characters.proofs.Chars.{next-of}
 use Rattle.lexer.proofs.Pieces.{reads, reads-1, reads-end, at-one, set-ascii, peek-set, solid-quote, solid-at, solid-set, solid-mark, solid-word, solid-none, mark-lexes, word-lexes, nothing-lexes}
@@ -22,58 +22,97 @@ returns : tie.Need-returns
 returns c = reads-end _ _ (sym (c .before .before .decode .ensures) ∙ (c .enum-told .given .1))
 
 lex-string-requires : tie.Need-lex-string-requires
-lex-string-requires c κs = subst (Next _ _) (c .match2 .keys1) (next-of _ _ (sym (c .before .before .before .before .decode .ensures) ∙ (c .before .before .c .given .1)) (rw (c .match2 .keys1) (omega arith)))
+lex-string-requires c κs =
+    let d = sym (c .before .before .before .before .decode .ensures) ∙ (c .before .before .c .given .1) in
+    subst (Next _ _) (c .match2 .keys1) (next-of _ _ d (rw (c .match2 .keys1) (omega arith)))
 
 lex-string-requires-2 : tie.Need-lex-string-requires-2
-lex-string-requires-2 c κs = subst (Next _ _) (c .match2 .keys2) (next-of _ _ (sym (c .before .before .before .before .decode .ensures) ∙ (c .before .before .c .given .1)) (rw (c .match2 .keys2) (omega arith)))
+lex-string-requires-2 c κs =
+    let d = sym (c .before .before .before .before .decode .ensures) ∙ (c .before .before .c .given .1) in
+    subst (Next _ _) (c .match2 .keys2) (next-of _ _ d (rw (c .match2 .keys2) (omega arith)))
 
 lex-at-requires : tie.Need-lex-at-requires
-lex-at-requires c κs = let f = scalar-fits _ _ (sym (c .before .before .before .before .decode .ensures) ∙ (c .before .before .c .given .1)) in omega arith
+lex-at-requires c κs =
+    let d = sym (c .before .before .before .before .decode .ensures) ∙ (c .before .before .c .given .1) in
+    let f = scalar-fits _ _ d in
+    omega arith
 
 add-opens-set : tie.Need-add-opens-set
-add-opens-set c = let f = scalar-fits _ _ (sym (c .before .before .before .before .decode .ensures) ∙ (c .before .before .c .given .1)) in omega arith
+add-opens-set c =
+    let d = sym (c .before .before .before .before .decode .ensures) ∙ (c .before .before .c .given .1) in
+    let f = scalar-fits _ _ d in
+    omega arith
 
 opens-set-requires : tie.Need-opens-set-requires
 opens-set-requires c κs = search needs
 
 lex-set-requires : tie.Need-lex-set-requires
-lex-set-requires c κs = let f = scalar-fits _ _ (sym (c .before .before .before .before .before .before .decode .ensures) ∙ (c .before .before .before .before .c .given .1)) in let k = at-one _ _ (sym (c .before .before .before .before .before .before .decode .ensures) ∙ (c .before .before .before .before .c .given .1)) _ (set-ascii _ _ _ (sym (c .before .opens-set .ensures) ∙ (c .if1 .taken))) refl in (omega arith, rw k at (peek-set _ _ _ (sym (c .before .opens-set .ensures) ∙ (c .if1 .taken))))
+lex-set-requires c κs =
+    let d = sym (c .before .before .before .before .before .before .decode .ensures) ∙ (c .before .before .before .before .c .given .1) in
+    let f = scalar-fits _ _ d in
+    let k = at-one _ _ d _ (set-ascii _ _ _ (sym (c .before .opens-set .ensures) ∙ (c .if1 .taken))) refl in
+    (omega arith, rw k at (peek-set _ _ _ (sym (c .before .opens-set .ensures) ∙ (c .if1 .taken))))
 
 returns-2 : tie.Need-returns-2
-returns-2 c = let h = (c .before .before .before .match2 .rest) in let k = at-one _ _ (sym (c .before .before .before .before .before .before .before .decode .ensures) ∙ (c .before .before .before .before .before .c .given .1)) _ (set-ascii _ _ _ (sym (c .before .before .opens-set .ensures) ∙ (c .before .if1 .taken))) refl in reads-1 _ _ (sym (c .before .before .before .before .before .before .before .decode .ensures) ∙ (c .before .before .before .before .before .c .given .1)) _ (set-ascii _ _ _ (sym (c .before .before .opens-set .ensures) ∙ (c .before .if1 .taken))) refl (c .before .before .before .before .before .before .before .before .before .pre) (solid-set _ _ _ (h .0 .0 .1) (h .0 .1) (h .1) (rw k at (sym (c .before .before .opens-set .ensures) ∙ (c .before .if1 .taken)))) (c .lex-set .ensures)
+returns-2 c =
+    let d = sym (c .before .before .before .before .before .before .before .decode .ensures) ∙ (c .before .before .before .before .before .c .given .1) in
+    let h = (c .before .before .before .match2 .rest) in
+    let k = at-one _ _ d _ (set-ascii _ _ _ (sym (c .before .before .opens-set .ensures) ∙ (c .before .if1 .taken))) refl in
+    reads-1 _ _ d _ (set-ascii _ _ _ (sym (c .before .before .opens-set .ensures) ∙ (c .before .if1 .taken))) refl (c .before .before .before .before .before .before .before .before .before .pre) (solid-set _ _ _ (h .0 .0 .1) (h .0 .1) (h .1) (rw k at (sym (c .before .before .opens-set .ensures) ∙ (c .before .if1 .taken)))) (c .lex-set .ensures)
 
 is-punctuation-requires : tie.Need-is-punctuation-requires
 is-punctuation-requires c κs = search needs
 
 add-t13 : tie.Need-add-t13
-add-t13 c = let f = scalar-fits _ _ (sym (c .before .before .before .before .before .before .before .before .decode .ensures) ∙ (c .before .before .before .before .before .before .c .given .1)) in omega arith
+add-t13 c =
+    let d = sym (c .before .before .before .before .before .before .before .before .decode .ensures) ∙ (c .before .before .before .before .before .before .c .given .1) in
+    let f = scalar-fits _ _ d in
+    omega arith
 
 returns-3 : tie.Need-returns-3
-returns-3 c = let h = (c .before .before .before .before .match2 .rest) in reads _ _ (sym (c .before .before .before .before .before .before .before .before .decode .ensures) ∙ (c .before .before .before .before .before .before .c .given .1)) (c .before .before .before .before .before .before .before .before .before .before .pre) (solid-mark _ _ _ (h .0 .0 .1) (h .0 .1) (h .1) (sym (c .before .before .before .opens-set .ensures) ∙ (c .before .before .if1 .left)) (sym (c .before .is-punctuation .ensures) ∙ (c .if2 .taken))) (mark-lexes _ _ (sym (c .before .before .before .before .before .before .before .before .decode .ensures) ∙ (c .before .before .before .before .before .before .c .given .1)))
+returns-3 c =
+    let d = sym (c .before .before .before .before .before .before .before .before .decode .ensures) ∙ (c .before .before .before .before .before .before .c .given .1) in
+    let h = (c .before .before .before .before .match2 .rest) in
+    reads _ _ d (c .before .before .before .before .before .before .before .before .before .before .pre) (solid-mark _ _ _ (h .0 .0 .1) (h .0 .1) (h .1) (sym (c .before .before .before .opens-set .ensures) ∙ (c .before .before .if1 .left)) (sym (c .before .is-punctuation .ensures) ∙ (c .if2 .taken))) (mark-lexes _ _ d)
 
 is-word-requires : tie.Need-is-word-requires
 is-word-requires c κs = search needs
 
 add-scan-word : tie.Need-add-scan-word
-add-scan-word c = let f = scalar-fits _ _ (sym (c .before .before .before .before .before .before .before .before .before .before .decode .ensures) ∙ (c .before .before .before .before .before .before .before .before .c .given .1)) in omega arith
+add-scan-word c =
+    let d = sym (c .before .before .before .before .before .before .before .before .before .before .decode .ensures) ∙ (c .before .before .before .before .before .before .before .before .c .given .1) in
+    let f = scalar-fits _ _ d in
+    omega arith
 
 scan-word-requires : tie.Need-scan-word-requires
 scan-word-requires c κs = search needs
 
 returns-4 : tie.Need-returns-4
-returns-4 c = let h = (c .before .before .before .before .before .before .before .match2 .rest) in reads _ _ (sym (c .before .before .before .before .before .before .before .before .before .before .before .decode .ensures) ∙ (c .before .before .before .before .before .before .before .before .before .c .given .1)) (c .before .before .before .before .before .before .before .before .before .before .before .before .before .pre) (solid-word _ _ _ (h .0 .0 .1) (h .0 .1) (h .1) (sym (c .before .before .before .before .before .before .opens-set .ensures) ∙ (c .before .before .before .before .before .if1 .left)) (sym (c .before .before .before .before .is-punctuation .ensures) ∙ (c .before .before .before .if2 .left)) (sym (c .before .before .is-word .ensures) ∙ (c .before .if3 .taken))) (word-lexes _ _ (sym (c .before .before .before .before .before .before .before .before .before .before .before .decode .ensures) ∙ (c .before .before .before .before .before .before .before .before .before .c .given .1)) _ (c .scan-word .ensures))
+returns-4 c =
+    let d = sym (c .before .before .before .before .before .before .before .before .before .before .before .decode .ensures) ∙ (c .before .before .before .before .before .before .before .before .before .c .given .1) in
+    let h = (c .before .before .before .before .before .before .before .match2 .rest) in
+    reads _ _ d (c .before .before .before .before .before .before .before .before .before .before .before .before .before .pre) (solid-word _ _ _ (h .0 .0 .1) (h .0 .1) (h .1) (sym (c .before .before .before .before .before .before .opens-set .ensures) ∙ (c .before .before .before .before .before .if1 .left)) (sym (c .before .before .before .before .is-punctuation .ensures) ∙ (c .before .before .before .if2 .left)) (sym (c .before .before .is-word .ensures) ∙ (c .before .if3 .taken))) (word-lexes _ _ d _ (c .scan-word .ensures))
 
 returns-5 : tie.Need-returns-5
-returns-5 c = reads-1 _ _ (sym (c .before .before .before .before .before .decode .ensures) ∙ (c .before .before .before .c .given .1)) 0x22 (omega arith) (c .before .match2 .keys1) (c .before .before .before .before .before .before .before .pre) (solid-quote 0x22 _ refl) (c .lex-string .ensures)
+returns-5 c =
+    let d = sym (c .before .before .before .before .before .decode .ensures) ∙ (c .before .before .before .c .given .1) in
+    reads-1 _ _ d 0x22 (omega arith) (c .before .match2 .keys1) (c .before .before .before .before .before .before .before .pre) (solid-quote 0x22 _ refl) (c .lex-string .ensures)
 
 returns-6 : tie.Need-returns-6
-returns-6 c = reads-1 _ _ (sym (c .before .before .before .before .before .decode .ensures) ∙ (c .before .before .before .c .given .1)) 0x27 (omega arith) (c .before .match2 .keys2) (c .before .before .before .before .before .before .before .pre) (solid-quote 0x27 _ refl) (c .lex-string2 .ensures)
+returns-6 c =
+    let d = sym (c .before .before .before .before .before .decode .ensures) ∙ (c .before .before .before .c .given .1) in
+    reads-1 _ _ d 0x27 (omega arith) (c .before .match2 .keys2) (c .before .before .before .before .before .before .before .pre) (solid-quote 0x27 _ refl) (c .lex-string2 .ensures)
 
 returns-7 : tie.Need-returns-7
-returns-7 c = reads-1 _ _ (sym (c .before .before .before .before .before .decode .ensures) ∙ (c .before .before .before .c .given .1)) 0x40 (omega arith) (c .before .match2 .keys3) (c .before .before .before .before .before .before .before .pre) (solid-at _) (c .lex-at .ensures)
+returns-7 c =
+    let d = sym (c .before .before .before .before .before .decode .ensures) ∙ (c .before .before .before .c .given .1) in
+    reads-1 _ _ d 0x40 (omega arith) (c .before .match2 .keys3) (c .before .before .before .before .before .before .before .pre) (solid-at _) (c .lex-at .ensures)
 
 returns-8 : tie.Need-returns-8
-returns-8 c = let h = (c .before .before .before .before .before .before .match2 .rest) in reads _ _ (sym (c .before .before .before .before .before .before .before .before .before .before .decode .ensures) ∙ (c .before .before .before .before .before .before .before .before .c .given .1)) (c .before .before .before .before .before .before .before .before .before .before .before .before .pre) (solid-none _ _ _ (h .0 .0 .1) (h .0 .1) (h .1) (sym (c .before .before .before .before .before .opens-set .ensures) ∙ (c .before .before .before .before .if1 .left)) (sym (c .before .before .before .is-punctuation .ensures) ∙ (c .before .before .if2 .left)) (sym (c .before .is-word .ensures) ∙ (c .if3 .left))) (nothing-lexes _ _ (sym (c .before .before .before .before .before .before .before .before .before .before .decode .ensures) ∙ (c .before .before .before .before .before .before .before .before .c .given .1)))
+returns-8 c =
+    let d = sym (c .before .before .before .before .before .before .before .before .before .before .decode .ensures) ∙ (c .before .before .before .before .before .before .before .before .c .given .1) in
+    let h = (c .before .before .before .before .before .before .match2 .rest) in
+    reads _ _ d (c .before .before .before .before .before .before .before .before .before .before .before .before .pre) (solid-none _ _ _ (h .0 .0 .1) (h .0 .1) (h .1) (sym (c .before .before .before .before .before .opens-set .ensures) ∙ (c .before .before .before .before .if1 .left)) (sym (c .before .before .before .is-punctuation .ensures) ∙ (c .before .before .if2 .left)) (sym (c .before .is-word .ensures) ∙ (c .if3 .left))) (nothing-lexes _ _ d)
 
 pub lex-spec : {M : Type 1} → statement M
 lex-spec =

@@ -1,7 +1,6 @@
 -- `lexer::lex_at` meets its contract. Assumes nothing.
 use borrow.Author.Needs.{needs}
-use native.Mathlib.Omega.{arith}
-use mathlib.Core.Path.{_≡_, refl, sym, _∙_, ap}
+use mathlib.Core.Path.{sym, _∙_}
 use Rattle.lexer.proofs.Pieces.{at-bare, at-lexes}
 use Rattle.lexer.proofs.lex_at.Statement.{statement}
 use Rattle.lexer.proofs.lex_at.Tie as tie

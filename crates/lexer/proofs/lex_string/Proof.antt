@@ -1,7 +1,6 @@
 -- `lexer::lex_string` meets its contract. Assumes nothing.
 use borrow.Author.Needs.{needs}
-use native.Mathlib.Omega.{arith}
-use mathlib.Core.Path.{_≡_, refl, sym, _∙_, ap}
+use mathlib.Core.Path.{sym, _∙_}
 use Rattle.lexer.proofs.Pieces.{next-peek, string-done, string-fails}
 use Rattle.lexer.proofs.lex_string.Statement.{statement}
 use Rattle.lexer.proofs.lex_string.Tie as tie
@@ -19,10 +18,13 @@ enum-told : tie.Need-enum-told
 enum-told c = search needs
 
 returns : tie.Need-returns
-returns c = string-fails _ _ (c .before .before .before .before .pre .inside) _ (sym (c .enum-told .given .1) ∙ (c .before .before .string-end .ensures))
+returns c =
+    string-fails _ _ (c .before .before .before .before .pre .inside) _ (sym (c .enum-told .given .1) ∙ (c .before .before .string-end .ensures))
 
 returns-2 : tie.Need-returns-2
-returns-2 c = let p = (c .before .before .before .before .before .pre) in string-done _ _ (p .inside) _ _ _ (next-peek _ _ _ p) (sym (c .before .e .given .1) ∙ (c .before .before .before .string-end .ensures))
+returns-2 c =
+    let p = (c .before .before .before .before .before .pre) in
+    string-done _ _ (p .inside) _ _ _ (next-peek _ _ _ p) (sym (c .before .e .given .1) ∙ (c .before .before .before .string-end .ensures))
 
 pub lex-string-spec : {M : Type 1} → statement M
 lex-string-spec =

@@ -1,7 +1,5 @@
 -- `lexer::next` meets its contract. Assumes nothing.
 use borrow.Author.Needs.{needs}
-use native.Mathlib.Omega.{arith}
-use mathlib.Core.Path.{_≡_, refl, sym, _∙_, ap}
 use Rattle.lexer.proofs.Pieces.{clear, unclosed, after}
 use Rattle.lexer.proofs.next.Statement.{statement}
 use Rattle.lexer.proofs.next.Tie as tie

@@ -1,12 +1,11 @@
 -- `lexer::set_end` meets its contract. Assumes nothing.
 use borrow.Author.Needs.{needs}
 use native.Mathlib.Omega.{arith}
-use mathlib.Core.Path.{_≡_, refl, sym, _∙_, ap}
+use mathlib.Core.Path.{_≡_, refl, sym, _∙_}
 use mathlib.Core.Bool.{true, false}
-use Prim.Native.Nat.{_-_, _≤_, _<_}
+use Prim.Native.Nat.{_-_}
 use lib.ListN.{length}
-use Rattle.lexer.proofs.Tokens.{end-ill, end-found, end-on, end-escape, end-escaped, end-stop}
-use Rattle.characters.specs.Classes.{isLineTerminator}
+use Rattle.lexer.proofs.Tokens.{end-ill, end-found, end-on, end-escape, end-escaped}
 use Rattle.lexer.specs.Tokens.{never}
 use Rattle.lexer.specs.Promise.{endOf}
 use Rattle.characters.proofs.Laws.{scalar-fits}
@@ -32,13 +31,16 @@ enum-told : tie.Need-enum-told Inv-loop μ-loop
 enum-told c = search needs
 
 returns : tie.Need-returns Inv-loop μ-loop
-returns c = sym (end-ill never 0x5D _ _ false (sym (c .before .before .decode .ensures) ∙ (c .enum-told .given .1))) ∙ (c .before .before .before .loop .inv)
+returns c =
+    sym (end-ill never 0x5D _ _ false (sym (c .before .before .decode .ensures) ∙ (c .enum-told .given .1))) ∙ (c .before .before .before .loop .inv)
 
 add-t9 : tie.Need-add-t9 Inv-loop μ-loop
 add-t9 c = let f = scalar-fits _ _ (sym (c .before .before .before .before .decode .ensures) ∙ (c .before .before .c .given .1)) in omega arith
 
 returns-2 : tie.Need-returns-2 Inv-loop μ-loop
-returns-2 c = sym (end-found never 0x5D _ _ (sym (c .before .before .before .before .decode .ensures) ∙ (c .before .before .c .given .1)) (c .if1 .taken)) ∙ (c .before .before .before .before .before .loop .inv)
+returns-2 c =
+    let d = sym (c .before .before .before .before .decode .ensures) ∙ (c .before .before .c .given .1) in
+    sym (end-found never 0x5D _ _ d (c .if1 .taken)) ∙ (c .before .before .before .before .before .loop .inv)
 
 add-cursor : tie.Need-add-cursor Inv-loop μ-loop
 add-cursor c = let f = scalar-fits _ _ (sym (c .before .before .before .before .decode .ensures) ∙ (c .before .before .c .given .1)) in omega arith
@@ -53,22 +55,44 @@ enum-told-2 : tie.Need-enum-told-2 Inv-loop μ-loop
 enum-told-2 c = search needs
 
 returns-3 : tie.Need-returns-3 Inv-loop μ-loop
-returns-3 c = sym (end-escape never 0x5D _ _ (sym (c .before .before .before .before .before .before .before .before .decode .ensures) ∙ (c .before .before .before .before .before .before .c .given .1)) (c .before .before .before .before .if1 .left) (c .before .before .before .if2 .taken) ∙ end-ill never 0x5D _ _ true (sym (c .before .before .decode2 .ensures) ∙ (c .enum-told2 .given .1))) ∙ (c .before .before .before .before .before .before .before .before .before .loop .inv)
+returns-3 c =
+    let d = sym (c .before .before .before .before .before .before .before .before .decode .ensures) ∙ (c .before .before .before .before .before .before .c .given .1) in
+    sym (end-escape never 0x5D _ _ d (c .before .before .before .before .if1 .left) (c .before .before .before .if2 .taken) ∙ end-ill never 0x5D _ _ true (sym (c .before .before .decode2 .ensures) ∙ (c .enum-told2 .given .1)))
+    ∙ (c .before .before .before .before .before .before .before .before .before .loop .inv)
 
 add-cursor-2 : tie.Need-add-cursor-2 Inv-loop μ-loop
-add-cursor-2 c = let f = scalar-fits _ _ (sym (c .before .before .before .before .before .before .before .before .before .decode .ensures) ∙ (c .before .before .before .before .before .before .before .c .given .1)) in let g = scalar-fits _ _ (sym (c .before .before .before .decode2 .ensures) ∙ (c .before .m .given .1)) in omega arith
+add-cursor-2 c =
+    let d = sym (c .before .before .before .before .before .before .before .before .before .decode .ensures) ∙ (c .before .before .before .before .before .before .before .c .given .1) in
+    let d₂ = sym (c .before .before .before .decode2 .ensures) ∙ (c .before .m .given .1) in
+    let f = scalar-fits _ _ d in
+    let g = scalar-fits _ _ d₂ in
+    omega arith
 
 loop-less : tie.Need-loop-less Inv-loop μ-loop
-loop-less c = let f = scalar-fits _ _ (sym (c .before .before .before .before .before .before .before .before .before .decode .ensures) ∙ (c .before .before .before .before .before .before .before .c .given .1)) in let g = scalar-fits _ _ (sym (c .before .before .before .decode2 .ensures) ∙ (c .before .m .given .1)) in omega arith
+loop-less c =
+    let d = sym (c .before .before .before .before .before .before .before .before .before .decode .ensures) ∙ (c .before .before .before .before .before .before .before .c .given .1) in
+    let d₂ = sym (c .before .before .before .decode2 .ensures) ∙ (c .before .m .given .1) in
+    let f = scalar-fits _ _ d in
+    let g = scalar-fits _ _ d₂ in
+    omega arith
 
 loop-again : tie.Need-loop-again Inv-loop μ-loop
-loop-again c = sym (end-escape never 0x5D _ _ (sym (c .before .before .before .before .before .before .before .before .before .decode .ensures) ∙ (c .before .before .before .before .before .before .before .c .given .1)) (c .before .before .before .before .before .if1 .left) (c .before .before .before .before .if2 .taken) ∙ end-escaped never 0x5D _ _ (sym (c .before .before .before .decode2 .ensures) ∙ (c .before .m .given .1)) refl) ∙ (c .before .before .before .before .before .before .before .before .before .before .loop .inv)
+loop-again c =
+    let d = sym (c .before .before .before .before .before .before .before .before .before .decode .ensures) ∙ (c .before .before .before .before .before .before .before .c .given .1) in
+    let d₂ = sym (c .before .before .before .decode2 .ensures) ∙ (c .before .m .given .1) in
+    sym (end-escape never 0x5D _ _ d (c .before .before .before .before .before .if1 .left) (c .before .before .before .before .if2 .taken) ∙ end-escaped never 0x5D _ _ d₂ refl)
+    ∙ (c .before .before .before .before .before .before .before .before .before .before .loop .inv)
 
 loop-less-2 : tie.Need-loop-less-2 Inv-loop μ-loop
-loop-less-2 c = let f = scalar-fits _ _ (sym (c .before .before .before .before .before .decode .ensures) ∙ (c .before .before .before .c .given .1)) in omega arith
+loop-less-2 c =
+    let d = sym (c .before .before .before .before .before .decode .ensures) ∙ (c .before .before .before .c .given .1) in
+    let f = scalar-fits _ _ d in
+    omega arith
 
 loop-again-2 : tie.Need-loop-again-2 Inv-loop μ-loop
-loop-again-2 c = sym (end-on never 0x5D _ _ (sym (c .before .before .before .before .before .decode .ensures) ∙ (c .before .before .before .c .given .1)) (c .before .if1 .left) (c .if2 .left)) ∙ (c .before .before .before .before .before .before .loop .inv)
+loop-again-2 c =
+    let d = sym (c .before .before .before .before .before .decode .ensures) ∙ (c .before .before .before .c .given .1) in
+    sym (end-on never 0x5D _ _ d (c .before .if1 .left) (c .if2 .left)) ∙ (c .before .before .before .before .before .before .loop .inv)
 
 pub set-end-spec : {M : Type 1} → statement M
 set-end-spec =

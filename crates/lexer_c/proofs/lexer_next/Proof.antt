@@ -1,6 +1,5 @@
 -- `lexer_c::lexer_next` meets its contract. Assumes nothing.
 use borrow.Author.Needs.{needs}
-use mathlib.Core.Path.{_≡_, _∙_, ap}
 use Rattle.lexer_c.proofs.Laid.{answers, answers-token}
 use Rattle.lexer_c.proofs.lexer_next.Statement.{statement}
 use Rattle.lexer_c.proofs.lexer_next.Tie as tie

@@ -1,7 +1,4 @@
 -- `lexer::escapes::control_code` meets its contract. Assumes nothing.
-use borrow.Author.Needs.{needs}
-use native.Mathlib.Omega.{arith}
-use mathlib.Core.Path.{_≡_, refl, sym, _∙_, ap}
 use borrow.Author.Tests.{ne-eqb}
 use Rattle.lexer.specs.Escapes.{control}
 use Rattle.lexer.proofs.escapes.control_code.Statement.{statement}

@@ -1,7 +1,6 @@
 -- `lexer::escapes::decode_digits` meets its contract. Assumes nothing.
 use borrow.Author.Needs.{needs}
-use native.Mathlib.Omega.{arith}
-use mathlib.Core.Path.{_≡_, refl, sym, _∙_, ap}
+use mathlib.Core.Path.{sym, _∙_}
 use Rattle.lexer.proofs.Escaped.{digits-letter, digits-code}
 use Rattle.lexer.proofs.escapes.decode_digits.Statement.{statement}
 use Rattle.lexer.proofs.escapes.decode_digits.Tie as tie

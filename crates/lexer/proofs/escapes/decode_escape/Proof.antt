@@ -1,7 +1,7 @@
 -- `lexer::escapes::decode_escape` meets its contract. Assumes nothing.
 use borrow.Author.Needs.{needs}
 use native.Mathlib.Omega.{arith}
-use mathlib.Core.Path.{_≡_, refl, sym, _∙_, ap}
+use mathlib.Core.Path.{refl}
 use Rattle.characters.specs.Places.{past}
 use Rattle.lexer.proofs.Escaped.{takes-as, escape-u, escape-x, escape-other}
 use Rattle.lexer.proofs.escapes.decode_escape.Statement.{statement}

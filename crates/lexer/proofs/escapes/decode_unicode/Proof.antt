@@ -1,7 +1,7 @@
 -- `lexer::escapes::decode_unicode` meets its contract. Assumes nothing.
 use borrow.Author.Needs.{needs}
 use native.Mathlib.Omega.{arith}
-use mathlib.Core.Path.{_≡_, refl, sym, _∙_, ap}
+use mathlib.Core.Path.{sym, _∙_}
 use Rattle.lexer.proofs.Escaped.{unicode-else, unicode-code}
 use Rattle.lexer.proofs.escapes.decode_unicode.Statement.{statement}
 use Rattle.lexer.proofs.escapes.decode_unicode.Tie as tie

@@ -1,7 +1,7 @@
 -- `lexer::escapes::set_atom` meets its contract. Assumes nothing.
 use borrow.Author.Needs.{needs}
 use native.Mathlib.Omega.{arith}
-use mathlib.Core.Path.{_≡_, refl, sym, _∙_, ap}
+use mathlib.Core.Path.{sym, _∙_}
 use Rattle.lexer.proofs.Escaped.{atom-none, atom-plain, atom-lone, atom-escape}
 use Rattle.characters.proofs.Laws.{scalar-fits}
 use Rattle.lexer.proofs.escapes.set_atom.Statement.{statement}
@@ -38,7 +38,9 @@ enum-told-2 : tie.Need-enum-told-2
 enum-told-2 c = search needs
 
 returns-3 : tie.Need-returns-3
-returns-3 c = atom-lone _ _ (sym (c .before .before .before .before .before .before .before .decode .ensures) ∙ (c .before .before .before .before .before .c .given .1)) (c .before .before .before .if1 .left) (sym (c .before .before .decode2 .ensures) ∙ (c .enum-told2 .given .1))
+returns-3 c =
+    let d = sym (c .before .before .before .before .before .before .before .decode .ensures) ∙ (c .before .before .before .before .before .c .given .1) in
+    atom-lone _ _ d (c .before .before .before .if1 .left) (sym (c .before .before .decode2 .ensures) ∙ (c .enum-told2 .given .1))
 
 add-decode-escape : tie.Need-add-decode-escape
 add-decode-escape c = let g = scalar-fits _ _ (sym (c .before .before .before .decode2 .ensures) ∙ (c .before .e .given .1)) in omega arith
@@ -47,7 +49,10 @@ decode-escape-requires : tie.Need-decode-escape-requires
 decode-escape-requires c κs = search needs
 
 returns-4 : tie.Need-returns-4
-returns-4 c = atom-escape _ _ (sym (c .before .before .before .before .before .before .before .before .before .decode .ensures) ∙ (c .before .before .before .before .before .before .before .c .given .1)) (c .before .before .before .before .before .if1 .left) _ _ _ _ (sym (c .before .before .before .before .decode2 .ensures) ∙ (c .before .before .e .given .1)) (c .decode-escape .ensures)
+returns-4 c =
+    let d = sym (c .before .before .before .before .before .before .before .before .before .decode .ensures) ∙ (c .before .before .before .before .before .before .before .c .given .1) in
+    let d₂ = sym (c .before .before .before .before .decode2 .ensures) ∙ (c .before .before .e .given .1) in
+    atom-escape _ _ d (c .before .before .before .before .before .if1 .left) _ _ _ _ d₂ (c .decode-escape .ensures)
 
 pub set-atom-spec : {M : Type 1} → statement M
 set-atom-spec =

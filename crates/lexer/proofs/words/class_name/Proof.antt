@@ -1,6 +1,6 @@
 -- `lexer::words::class_name` meets its contract. Assumes nothing.
 use borrow.Author.Needs.{needs}
-use mathlib.Core.Path.{_≡_, sym, _∙_}
+use mathlib.Core.Path.{sym, _∙_}
 use Rattle.lexer.specs.Promise.{classNamed}
 use Rattle.lexer.proofs.words.class_name.Statement.{statement}
 use Rattle.lexer.proofs.words.class_name.Tie as tie
@@ -23,7 +23,8 @@ spells-requires-2 c κs = search needs
 
 returns-2 : tie.Need-returns-2
 unfolding classNamed
-returns-2 c = rw (sym (c .before .before .before .before .spells .ensures) ∙ (c .before .before .before .if1 .left), sym (c .before .spells2 .ensures) ∙ (c .if2 .taken))
+returns-2 c =
+    rw (sym (c .before .before .before .before .spells .ensures) ∙ (c .before .before .before .if1 .left), sym (c .before .spells2 .ensures) ∙ (c .if2 .taken))
 
 slice-aggregate-spells-3 : tie.Need-slice-aggregate-spells-3
 slice-aggregate-spells-3 c = search needs
@@ -33,7 +34,8 @@ spells-requires-3 c κs = search needs
 
 returns-3 : tie.Need-returns-3
 unfolding classNamed
-returns-3 c = rw (sym (c .before .before .before .before .before .before .before .spells .ensures) ∙ (c .before .before .before .before .before .before .if1 .left), sym (c .before .before .before .before .spells2 .ensures) ∙ (c .before .before .before .if2 .left), sym (c .before .spells3 .ensures) ∙ (c .if3 .taken))
+returns-3 c =
+    rw (sym (c .before .before .before .before .before .before .before .spells .ensures) ∙ (c .before .before .before .before .before .before .if1 .left), sym (c .before .before .before .before .spells2 .ensures) ∙ (c .before .before .before .if2 .left), sym (c .before .spells3 .ensures) ∙ (c .if3 .taken))
 
 slice-aggregate-spells-4 : tie.Need-slice-aggregate-spells-4
 slice-aggregate-spells-4 c = search needs
@@ -43,7 +45,8 @@ spells-requires-4 c κs = search needs
 
 returns-4 : tie.Need-returns-4
 unfolding classNamed
-returns-4 c = rw (sym (c .before .before .before .before .before .before .before .before .before .before .spells .ensures) ∙ (c .before .before .before .before .before .before .before .before .before .if1 .left), sym (c .before .before .before .before .before .before .before .spells2 .ensures) ∙ (c .before .before .before .before .before .before .if2 .left), sym (c .before .before .before .before .spells3 .ensures) ∙ (c .before .before .before .if3 .left), sym (c .before .spells4 .ensures) ∙ (c .if4 .taken))
+returns-4 c =
+    rw (sym (c .before .before .before .before .before .before .before .before .before .before .spells .ensures) ∙ (c .before .before .before .before .before .before .before .before .before .if1 .left), sym (c .before .before .before .before .before .before .before .spells2 .ensures) ∙ (c .before .before .before .before .before .before .if2 .left), sym (c .before .before .before .before .spells3 .ensures) ∙ (c .before .before .before .if3 .left), sym (c .before .spells4 .ensures) ∙ (c .if4 .taken))
 
 slice-aggregate-spells-5 : tie.Need-slice-aggregate-spells-5
 slice-aggregate-spells-5 c = search needs
@@ -53,7 +56,8 @@ spells-requires-5 c κs = search needs
 
 returns-5 : tie.Need-returns-5
 unfolding classNamed
-returns-5 c = rw (sym (c .before .before .before .before .before .before .before .before .before .before .before .before .before .spells .ensures) ∙ (c .before .before .before .before .before .before .before .before .before .before .before .before .if1 .left), sym (c .before .before .before .before .before .before .before .before .before .before .spells2 .ensures) ∙ (c .before .before .before .before .before .before .before .before .before .if2 .left), sym (c .before .before .before .before .before .before .before .spells3 .ensures) ∙ (c .before .before .before .before .before .before .if3 .left), sym (c .before .before .before .before .spells4 .ensures) ∙ (c .before .before .before .if4 .left), sym (c .before .spells5 .ensures) ∙ (c .if5 .taken))
+returns-5 c =
+    rw (sym (c .before .before .before .before .before .before .before .before .before .before .before .before .before .spells .ensures) ∙ (c .before .before .before .before .before .before .before .before .before .before .before .before .if1 .left), sym (c .before .before .before .before .before .before .before .before .before .before .spells2 .ensures) ∙ (c .before .before .before .before .before .before .before .before .before .if2 .left), sym (c .before .before .before .before .before .before .before .spells3 .ensures) ∙ (c .before .before .before .before .before .before .if3 .left), sym (c .before .before .before .before .spells4 .ensures) ∙ (c .before .before .before .if4 .left), sym (c .before .spells5 .ensures) ∙ (c .if5 .taken))
 
 slice-aggregate-spells-6 : tie.Need-slice-aggregate-spells-6
 slice-aggregate-spells-6 c = search needs
@@ -63,11 +67,13 @@ spells-requires-6 c κs = search needs
 
 returns-6 : tie.Need-returns-6
 unfolding classNamed
-returns-6 c = rw (sym (c .before .before .before .before .before .before .before .before .before .before .before .before .before .before .before .before .spells .ensures) ∙ (c .before .before .before .before .before .before .before .before .before .before .before .before .before .before .before .if1 .left), sym (c .before .before .before .before .before .before .before .before .before .before .before .before .before .spells2 .ensures) ∙ (c .before .before .before .before .before .before .before .before .before .before .before .before .if2 .left), sym (c .before .before .before .before .before .before .before .before .before .before .spells3 .ensures) ∙ (c .before .before .before .before .before .before .before .before .before .if3 .left), sym (c .before .before .before .before .before .before .before .spells4 .ensures) ∙ (c .before .before .before .before .before .before .if4 .left), sym (c .before .before .before .before .spells5 .ensures) ∙ (c .before .before .before .if5 .left), sym (c .before .spells6 .ensures) ∙ (c .if6 .taken))
+returns-6 c =
+    rw (sym (c .before .before .before .before .before .before .before .before .before .before .before .before .before .before .before .before .spells .ensures) ∙ (c .before .before .before .before .before .before .before .before .before .before .before .before .before .before .before .if1 .left), sym (c .before .before .before .before .before .before .before .before .before .before .before .before .before .spells2 .ensures) ∙ (c .before .before .before .before .before .before .before .before .before .before .before .before .if2 .left), sym (c .before .before .before .before .before .before .before .before .before .before .spells3 .ensures) ∙ (c .before .before .before .before .before .before .before .before .before .if3 .left), sym (c .before .before .before .before .before .before .before .spells4 .ensures) ∙ (c .before .before .before .before .before .before .if4 .left), sym (c .before .before .before .before .spells5 .ensures) ∙ (c .before .before .before .if5 .left), sym (c .before .spells6 .ensures) ∙ (c .if6 .taken))
 
 returns-7 : tie.Need-returns-7
 unfolding classNamed
-returns-7 c = rw (sym (c .before .before .before .before .before .before .before .before .before .before .before .before .before .before .before .before .spells .ensures) ∙ (c .before .before .before .before .before .before .before .before .before .before .before .before .before .before .before .if1 .left), sym (c .before .before .before .before .before .before .before .before .before .before .before .before .before .spells2 .ensures) ∙ (c .before .before .before .before .before .before .before .before .before .before .before .before .if2 .left), sym (c .before .before .before .before .before .before .before .before .before .before .spells3 .ensures) ∙ (c .before .before .before .before .before .before .before .before .before .if3 .left), sym (c .before .before .before .before .before .before .before .spells4 .ensures) ∙ (c .before .before .before .before .before .before .if4 .left), sym (c .before .before .before .before .spells5 .ensures) ∙ (c .before .before .before .if5 .left), sym (c .before .spells6 .ensures) ∙ (c .if6 .left))
+returns-7 c =
+    rw (sym (c .before .before .before .before .before .before .before .before .before .before .before .before .before .before .before .before .spells .ensures) ∙ (c .before .before .before .before .before .before .before .before .before .before .before .before .before .before .before .if1 .left), sym (c .before .before .before .before .before .before .before .before .before .before .before .before .before .spells2 .ensures) ∙ (c .before .before .before .before .before .before .before .before .before .before .before .before .if2 .left), sym (c .before .before .before .before .before .before .before .before .before .before .spells3 .ensures) ∙ (c .before .before .before .before .before .before .before .before .before .if3 .left), sym (c .before .before .before .before .before .before .before .spells4 .ensures) ∙ (c .before .before .before .before .before .before .if4 .left), sym (c .before .before .before .before .spells5 .ensures) ∙ (c .before .before .before .if5 .left), sym (c .before .spells6 .ensures) ∙ (c .if6 .left))
 
 pub class-name-spec : {M : Type 1} → statement M
 class-name-spec =
