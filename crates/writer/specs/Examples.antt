@@ -52,7 +52,7 @@ table =
     -- a quote and a backslash in a string
     ∷ "@top T { \"\\\"\\\\\" }\n"
     -- spans of one code, and of more
-    ∷ "@tokens { t { $[\\u{41}\\u{61}-\\u{7a}] } }\n@top T { t }\n"
+    ∷ "@top T { t }\n@tokens { t { $[\\u{41}\\u{61}-\\u{7A}] } }\n"
     ∷ []
 
 pub none-changed : changed table ≡ []
