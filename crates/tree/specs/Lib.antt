@@ -4,3 +4,4 @@ pub mod Records
 pub mod Stored
 pub mod OneTree
 pub mod Equality
+pub mod Promise

@@ -52,7 +52,7 @@ pub record Record : Type 0 where
   pub children : ℕ
 
 -- how many words a record has
-unfoldable pub width : ℕ
+abbrev pub width : ℕ
 width = 7
 
 abbrev pub wordsOf : Record → List ℕ

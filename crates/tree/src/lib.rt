@@ -1,1 +1,417 @@
-// The stored tree.
+// The stored tree: records of seven words, children before their parent, and the bytes of their texts.
+// Whether words and texts are one tree, and whether two trees are structurally equal. Nothing is copied, there is no stack and no
+// recursion: a branch is passed by counting back over its records.
+ghost use mathlib.Core.Path.{_≡_};
+ghost use Prim.Native.Nat.{ℕ, _+_, _*_, _≤_, _<_};
+ghost use mathlib.Core.List.{reverse};
+ghost use lib.ListN.{length};
+ghost use mathlib.Core.Bool.{_||_};
+ghost use Rattle.basics.specs.Basics.{among, same, within};
+ghost use Rattle.tree.specs.Records.{width};
+ghost use Rattle.tree.specs.OneTree.{isKind, isExpression, hasText, valuesFit, groupsOf, textFits, begins as beginsD, childrenFit, recordFits, build};
+ghost use Rattle.tree.specs.Promise.{countOf, wordAt, recordAt, nodeAt, firstOf, kindBefore, kindsBack, kindsOf, groupsIn, rootOf, isSome, sameNode, comparison};
+
+// How many words a record has, and which is which.
+const WIDTH: usize = 7;
+
+const KIND: usize = 0;
+
+const PLACE: usize = 2;
+
+const SIZE: usize = 3;
+
+const VALUE: usize = 4;
+
+const SECOND: usize = 5;
+
+const CHILDREN: usize = 6;
+
+// What the root of a tree has to be.
+pub enum Root {
+    Expression,
+    Grammar,
+}
+
+// How two trees compare, or that one of them is none.
+pub enum Comparison {
+    Equal,
+    Different,
+    NotATree,
+}
+
+fn wide(x: u32) -> usize
+    ensures { λ r. ⌜ r ≡ x ⌝ }
+{
+    x as usize
+}
+
+// How many records the words have.
+pub fn count(records: &[u32]) -> usize
+    ensures { λ r. ⌜ r ≡ countOf (now (records .entry)) ⌝ }
+{
+    records.len() / WIDTH
+}
+
+// A word of a record.
+pub fn word(records: &[u32], i: usize, k: usize) -> u32
+    requires { ⌜ (i < countOf (now records)) × (k < width) ⌝ }
+    ensures { λ r. ⌜ r ≡ wordAt (now (records .entry)) i k ⌝ }
+{
+    records[i * WIDTH + k]
+}
+
+// Where the last n branches begin that end before the record `end`; 0 where there are not so many. Each record passed takes its
+// children with it.
+pub fn first(records: &[u32], end: usize, n: usize) -> usize
+    requires { ⌜ end ≤ countOf (now records) ⌝ }
+    ensures { λ r. ⌜ r ≡ firstOf (now (records .entry)) end n ⌝ }
+{
+    let mut i = end;
+    let mut need = n;
+    while 0 < need {
+        if i < need {
+            return 0;
+        }
+        i -= 1;
+        need = need - 1 + wide(word(records, i, CHILDREN));
+    }
+    i
+}
+
+// The kind of the last branch that ends before the record `end`, or 0.
+pub fn kind_before(records: &[u32], end: usize) -> u32
+    requires { ⌜ end ≤ countOf (now records) ⌝ }
+    ensures { λ r. ⌜ r ≡ kindBefore (now (records .entry)) end ⌝ }
+{
+    if end == 0 {
+        return 0;
+    }
+    word(records, end - 1, KIND)
+}
+
+fn is_kind(k: u32) -> bool
+    ensures { λ r. ⌜ r ≡ isKind k ⌝ }
+{
+    if k < 1 {
+        return false;
+    }
+    if k <= 26 {
+        return true;
+    }
+    if k < 30 {
+        return false;
+    }
+    k <= 42
+}
+
+pub fn is_expression(k: u32) -> bool
+    ensures { λ r. ⌜ r ≡ isExpression k ⌝ }
+{
+    match k {
+        30 => true,
+        31 => true,
+        32 => true,
+        33 => true,
+        34 => true,
+        35 => true,
+        36 => true,
+        37 => true,
+        39 => true,
+        40 => true,
+        _ => false,
+    }
+}
+
+fn has_text(k: u32) -> bool
+    ensures { λ r. ⌜ r ≡ hasText k ⌝ }
+{
+    match k {
+        2 => true,
+        3 => true,
+        4 => true,
+        5 => true,
+        6 => true,
+        7 => true,
+        11 => true,
+        13 => true,
+        14 => true,
+        15 => true,
+        16 => true,
+        17 => true,
+        18 => true,
+        19 => true,
+        21 => true,
+        24 => true,
+        25 => true,
+        26 => true,
+        30 => true,
+        32 => true,
+        36 => true,
+        41 => true,
+        42 => true,
+        _ => false,
+    }
+}
+
+fn is_specialize(value: u32) -> bool
+    ensures { λ r. ⌜ r ≡ within 1 2 value ⌝ }
+{
+    if value < 1 {
+        return false;
+    }
+    value <= 2
+}
+
+// The value and second word of a kind.
+fn values_fit(kind: u32, value: u32, second: u32) -> bool
+    ensures { λ r. ⌜ r ≡ valuesFit kind value second ⌝ }
+{
+    if kind == 38 {
+        if value < second {
+            return second <= 1114112;
+        }
+        return false;
+    }
+    if second != 0 {
+        return false;
+    }
+    match kind {
+        1 => value <= 1,
+        5 => value <= 1,
+        34 => value <= 1,
+        37 => value <= 1,
+        18 => is_specialize(value),
+        31 => is_specialize(value),
+        35 => value <= 2,
+        21 => value <= 3,
+        40 => value <= 5,
+        _ => value == 0,
+    }
+}
+
+// Those of a sequence: none where it is explicitly empty.
+fn slots(value: u32) -> [u32; 14]
+    ensures { λ r. ⌜ (length r ≡ 14) × (groupsIn r ≡ reverse (groupsOf 34 value)) ⌝ }
+{
+    match value {
+        0 => [51, 0, 0, 0, 0, 0, 0, 0, 0, 0, 0, 0, 0, 0],
+        _ => [0, 0, 0, 0, 0, 0, 0, 0, 0, 0, 0, 0, 0, 0],
+    }
+}
+
+// The groups of children of a record, last first, up to a 0. A group is the number of its kind, or 50 for expressions, 51 for these and
+// markers, 52 for names and literals, 53 for parts; 64 more where it is just one child, 128 more where it is at most one.
+fn groups(kind: u32, value: u32) -> [u32; 14]
+    ensures { λ r. ⌜ (length r ≡ 14) × (groupsIn r ≡ reverse (groupsOf kind value)) ⌝ }
+{
+    match kind {
+        1 => [25, 24, 23, 22, 20, 19, 18, 16, 14, 12, 8, 3, 2, 0],
+        2 => [114, 4, 5, 0, 0, 0, 0, 0, 0, 0, 0, 0, 0, 0],
+        3 => [114, 4, 5, 0, 0, 0, 0, 0, 0, 0, 0, 0, 0, 0],
+        5 => [53, 0, 0, 0, 0, 0, 0, 0, 0, 0, 0, 0, 0, 0],
+        8 => [11, 3, 10, 9, 0, 0, 0, 0, 0, 0, 0, 0, 0, 0],
+        9 => [52, 0, 0, 0, 0, 0, 0, 0, 0, 0, 0, 0, 0, 0],
+        10 => [116, 116, 0, 0, 0, 0, 0, 0, 0, 0, 0, 0, 0, 0],
+        11 => [5, 0, 0, 0, 0, 0, 0, 0, 0, 0, 0, 0, 0, 0],
+        12 => [141, 3, 9, 0, 0, 0, 0, 0, 0, 0, 0, 0, 0, 0],
+        13 => [5, 0, 0, 0, 0, 0, 0, 0, 0, 0, 0, 0, 0, 0],
+        14 => [79, 0, 0, 0, 0, 0, 0, 0, 0, 0, 0, 0, 0, 0],
+        16 => [17, 13, 79, 0, 0, 0, 0, 0, 0, 0, 0, 0, 0, 0],
+        18 => [13, 79, 114, 0, 0, 0, 0, 0, 0, 0, 0, 0, 0, 0],
+        19 => [79, 0, 0, 0, 0, 0, 0, 0, 0, 0, 0, 0, 0, 0],
+        20 => [21, 0, 0, 0, 0, 0, 0, 0, 0, 0, 0, 0, 0, 0],
+        22 => [114, 0, 0, 0, 0, 0, 0, 0, 0, 0, 0, 0, 0, 0],
+        23 => [3, 2, 114, 0, 0, 0, 0, 0, 0, 0, 0, 0, 0, 0],
+        25 => [79, 90, 0, 0, 0, 0, 0, 0, 0, 0, 0, 0, 0, 0],
+        30 => [50, 0, 0, 0, 0, 0, 0, 0, 0, 0, 0, 0, 0, 0],
+        31 => [114, 114, 5, 0, 0, 0, 0, 0, 0, 0, 0, 0, 0, 0],
+        32 => [114, 5, 0, 0, 0, 0, 0, 0, 0, 0, 0, 0, 0, 0],
+        33 => [50, 0, 0, 0, 0, 0, 0, 0, 0, 0, 0, 0, 0, 0],
+        34 => slots(value),
+        35 => [114, 0, 0, 0, 0, 0, 0, 0, 0, 0, 0, 0, 0, 0],
+        37 => [38, 0, 0, 0, 0, 0, 0, 0, 0, 0, 0, 0, 0, 0],
+        _ => [0, 0, 0, 0, 0, 0, 0, 0, 0, 0, 0, 0, 0, 0],
+    }
+}
+
+// A kind is one of those that a number stands for.
+fn is_among(kinds: u32, k: u32) -> bool
+    ensures { λ r. ⌜ r ≡ among (kindsOf kinds) k ⌝ }
+{
+    match kinds {
+        50 => is_expression(k),
+        51 => is_slot(k),
+        52 => is_reference(k),
+        53 => is_part(k),
+        _ => k == kinds,
+    }
+}
+
+fn is_slot(k: u32) -> bool
+    ensures { λ r. ⌜ r ≡ among (kindsOf 51) k ⌝ }
+{
+    match k {
+        41 => true,
+        42 => true,
+        _ => is_expression(k),
+    }
+}
+
+fn is_reference(k: u32) -> bool
+    ensures { λ r. ⌜ r ≡ among (kindsOf 52) k ⌝ }
+{
+    match k {
+        30 => true,
+        36 => true,
+        _ => false,
+    }
+}
+
+fn is_part(k: u32) -> bool
+    ensures { λ r. ⌜ r ≡ among (kindsOf 53) k ⌝ }
+{
+    match k {
+        6 => true,
+        7 => true,
+        _ => false,
+    }
+}
+
+// Where the branch before the last begins and ends: asked for only where there is one, since this counts back over the last.
+fn sibling(records: &[u32], end: usize, left: usize) -> usize
+    requires { ⌜ end ≤ countOf (now records) ⌝ }
+    ensures { λ r. ⌜ (r ≤ countOf (now (records .entry))) × (0 < left → r ≡ firstOf (now (records .entry)) end 1) ⌝ }
+{
+    if left == 0 {
+        return end;
+    }
+    first(records, end, 1)
+}
+
+// Some branches are left, and the last of them is of one of the kinds that a number stands for.
+fn begins(records: &[u32], kinds: u32, end: usize, left: usize) -> bool
+    requires { ⌜ end ≤ countOf (now records) ⌝ }
+    ensures { λ r. ⌜ r ≡ beginsD (kindsOf kinds) (kindsBack (now (records .entry)) end left) ⌝ }
+{
+    if left == 0 {
+        return false;
+    }
+    is_among(kinds, kind_before(records, end))
+}
+
+// The last n branches that end before the record `end` may be the children of a record of a kind and value.
+fn children_fit(records: &[u32], kind: u32, value: u32, n: usize, end: usize) -> bool
+    requires { ⌜ end ≤ countOf (now records) ⌝ }
+    ensures { λ r. ⌜ r ≡ childrenFit kind value (kindsBack (now (records .entry)) end n) ⌝ }
+{
+    let groups = groups(kind, value);
+    let mut g = 0;
+    let mut j = end;
+    let mut left = n;
+    while g < 14 {
+        let group = groups[g];
+        if group == 0 {
+            return left == 0;
+        }
+        if group < 64 {
+            if begins(records, group, j, left) {
+                left -= 1;
+                j = sibling(records, j, left);
+            } else {
+                g += 1;
+            }
+        } else if group < 128 {
+            if !begins(records, group - 64, j, left) {
+                return false;
+            }
+            left -= 1;
+            j = sibling(records, j, left);
+            g += 1;
+        } else if begins(records, group - 128, j, left) {
+            left -= 1;
+            j = sibling(records, j, left);
+            g += 1;
+        } else {
+            g += 1;
+        }
+    }
+    left == 0
+}
+
+// The text of a record, where the texts before it end at `at`, in texts of `room` bytes.
+fn text_fits(records: &[u32], i: usize, at: usize, room: usize) -> bool
+    requires { ⌜ (i < countOf (now records)) × (at ≤ room) ⌝ }
+    ensures { λ r. ⌜ r ≡ textFits room at (recordAt (now (records .entry)) i) ⌝ }
+{
+    let size = wide(word(records, i, SIZE));
+    let place = wide(word(records, i, PLACE));
+    if size == 0 {
+        return place == 0;
+    }
+    if !has_text(word(records, i, KIND)) {
+        return false;
+    }
+    if place != at {
+        return false;
+    }
+    size <= room - at
+}
+
+// A record over its children.
+fn record_fits(records: &[u32], i: usize, at: usize, room: usize) -> bool
+    requires { ⌜ (i < countOf (now records)) × (at ≤ room) ⌝ }
+    ensures { λ r. ⌜ r ≡ recordFits room at (recordAt (now (records .entry)) i) (kindsBack (now (records .entry)) i (wordAt (now (records .entry)) i 6)) ⌝ }
+{
+    let kind = word(records, i, KIND);
+    if !is_kind(kind) {
+        return false;
+    }
+    let value = word(records, i, VALUE);
+    if !values_fit(kind, value, word(records, i, SECOND)) {
+        return false;
+    }
+    if !text_fits(records, i, at, room) {
+        return false;
+    }
+    children_fit(records, kind, value, wide(word(records, i, CHILDREN)), i)
+}
+
+fn is_root(root: Root, k: u32) -> bool
+    ensures { λ r. ⌜ r ≡ rootOf root k ⌝ }
+{
+    match root {
+        Root::Expression => is_expression(k),
+        Root::Grammar => k == 1,
+    }
+}
+
+// The words and texts are one tree, with the root that is asked for. Each record is visited once, and once more for each sibling after
+// it of its own branch or of a branch it lies in: at most records times levels, and records alone where a branch is never followed by
+// a deep one, as in stacked repeats.
+pub fn is_tree(root: Root, records: &[u32], texts: &[u8]) -> bool
+    ensures { λ r. ⌜ r ≡ isSome (build (rootOf root) (now (records .entry)) (now (texts .entry))) ⌝ }
+{
+    let n = count(records);
+    if n * WIDTH != records.len() {
+        return false;
+    }
+    let mut depth: usize = 0;
+    let mut at: usize = 0;
+    let mut i = 0;
+    while i < n {
+        let children = wide(word(records, i, CHILDREN));
+        if depth < children {
+            return false;
+        }
+        if !record_fits(records, i, at, texts.len()) {
+            return false;
+        }
+        depth = depth - children + 1;
+        at += wide(word(records, i, SIZE));
+        i += 1;
+    }
+    if depth != 1 {
+        return false;
+    }
+    is_root(root, word(records, n - 1, KIND))
+}

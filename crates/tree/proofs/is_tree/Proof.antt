@@ -1,0 +1,122 @@
+-- `tree::is_tree` meets its contract. The loop's invariant: the branches of the records so far stand in the words, `depth` of them, and the
+-- records that are left give the tree from there. Assumes nothing.
+use Prim.Native.Nat.{ℕ, _+_, _-_, _*_, _/_, _≤_}
+use mathlib.Core.Path.{_≡_, refl, ap, sym, _∙_}
+use native.Mathlib.Omega.{arith}
+use borrow.Author.Tests.{not-true, not-false}
+use lib.ListN.{length}
+use Rattle.tree.specs.OneTree.{build, rooted}
+use Rattle.tree.specs.Promise.{recordAt, kindsBack, wordAt, rootOf, isSome}
+use Rattle.tree.proofs.Trees.{Grown, grownOf, grown-first, grown-few, build-whole, build-broken, no-tree, too-few, misfit, grow, record-inside, rooted-last, more-left}
+use Rattle.tree.proofs.is_tree.Statement.{statement}
+use Rattle.tree.proofs.is_tree.Tie as tie
+
+abbrev Inv-loop : tie.InvT-loop
+Inv-loop root records texts n depth₀ at₀ i₀ depth at i =
+    (i ≤ n) × (at ≤ length texts) × Grown records texts (n - i) i depth at (grownOf records texts n)
+
+abbrev μ-loop : tie.MeasureT-loop
+μ-loop root records texts n depth₀ at₀ i₀ depth at i = n - i
+
+count-requires : tie.Need-count-requires Inv-loop μ-loop
+count-requires c κs = tt
+
+mul-if1 : tie.Need-mul-if1 Inv-loop μ-loop
+mul-if1 c = omega (arith, c .count .ensures)
+
+returns : tie.Need-returns Inv-loop μ-loop
+returns c = sym (ap isSome (build-broken _ _ _ (λ e. c .if1 .taken (rw (c .before .count .ensures) e))))
+
+loop-holds : tie.Need-loop-holds Inv-loop μ-loop
+loop-holds c = (omega arith, omega arith, grown-first _ _ _ _ (omega arith))
+
+word-requires : tie.Need-word-requires Inv-loop μ-loop
+word-requires c κs = (omega (arith, c .before .before .before .count .ensures), omega arith)
+
+wide-requires : tie.Need-wide-requires Inv-loop μ-loop
+wide-requires c κs = tt
+
+returns-2 : tie.Need-returns-2 Inv-loop μ-loop
+returns-2 c =
+    no-tree _ _ _ (c .before .before .before .before .before .before .count .result) (sym (c .before .before .before .before .before .if1 .left)) (too-few _ _ _ _ (c .before .before .before .before .before .before .count .result - c .before .before .before .before .loop .i) (c .before .before .before .before .before .before .count .result - c .before .before .before .before .loop .i - 1) (omega arith) (c .before .before .before .before .loop .inv .2) (rw (c .before .wide .ensures, c .before .before .word .ensures) at (c .if2 .taken)))
+
+record-fits-requires : tie.Need-record-fits-requires Inv-loop μ-loop
+record-fits-requires c κs = (omega (arith, c .before .before .before .before .before .before .count .ensures), c .before .before .before .before .loop .inv .1)
+
+returns-3 : tie.Need-returns-3 Inv-loop μ-loop
+returns-3 c =
+    no-tree _ _ _ (c .before .before .before .before .before .before .before .before .count .result) (sym (c .before .before .before .before .before .before .before .if1 .left))
+    (misfit _ _ _ _ (c .before .before .before .before .before .before .before .before .count .result - c .before .before .before .before .before .before .loop .i) (c .before .before .before .before .before .before .before .before .count .result - c .before .before .before .before .before .before .loop .i - 1) (omega arith) (c .before .before .before .before .before .before .loop .inv .2) (rw (c .before .before .before .wide .ensures, c .before .before .before .before .word .ensures) at (c .before .before .if2 .left)) (sym (c .before .record-fits .ensures) ∙ not-true _ (c .if3 .taken)))
+
+add-depth : tie.Need-add-depth Inv-loop μ-loop
+add-depth c = omega (arith, grown-few (c .before .before .before .before .before .before .loop .inv .2), c .before .before .before .before .before .before .before .before .count .ensures)
+
+word-requires-2 : tie.Need-word-requires-2 Inv-loop μ-loop
+word-requires-2 c κs = (omega (arith, c .before .before .before .before .before .before .before .before .count .ensures), omega arith)
+
+wide-requires-2 : tie.Need-wide-requires-2 Inv-loop μ-loop
+wide-requires-2 c κs = tt
+
+add-at : tie.Need-add-at Inv-loop μ-loop
+add-at c =
+    omega (arith, c .wide2 .ensures, c .before .word2 .ensures, record-inside _ _ _ _ (sym (c .before .before .before .record-fits .ensures) ∙ not-false _ (c .before .before .if3 .left)) (c .before .before .before .before .before .before .before .before .loop .inv .1) .1)
+
+add-i : tie.Need-add-i Inv-loop μ-loop
+add-i c = omega (arith, c .before .before .before .before .before .before .before .before .before .before .count .ensures)
+
+loop-less : tie.Need-loop-less Inv-loop μ-loop
+loop-less c = omega arith
+
+loop-again : tie.Need-loop-again Inv-loop μ-loop
+loop-again c = (
+  omega arith,
+  rw (c .wide2 .ensures, c .before .word2 .ensures) (record-inside _ _ _ _ (sym (c .before .before .before .record-fits .ensures) ∙ not-false _ (c .before .before .if3 .left)) (c .before .before .before .before .before .before .before .before .loop .inv .1) .1),
+  rw (c .wide2 .ensures, c .before .word2 .ensures, c .before .before .before .before .before .wide .ensures, c .before .before .before .before .before .before .word .ensures)
+      (grow _ _ _ _ (c .before .before .before .before .before .before .before .before .before .before .count .result - c .before .before .before .before .before .before .before .before .loop .i) (c .before .before .before .before .before .before .before .before .before .before .count .result - (c .before .before .before .before .before .before .before .before .loop .i + 1)) (omega arith) (c .before .before .before .before .before .before .before .before .loop .inv .2) (rw (c .before .before .before .before .before .wide .ensures, c .before .before .before .before .before .before .word .ensures) at (c .before .before .before .before .if2 .left)) (sym (c .before .before .before .record-fits .ensures) ∙ not-false _ (c .before .before .if3 .left)) (c .before .before .before .before .before .before .before .before .loop .inv .1)),
+)
+
+returns-4 : tie.Need-returns-4 Inv-loop μ-loop
+returns-4 c =
+    no-tree _ _ _ (c .before .before .before .before .count .result) (sym (c .before .before .before .if1 .left)) (more-left _ _ (c .before .before .before .before .count .result - c .before .before .loop .i) (omega arith) (c .before .before .loop .inv .2) (c .if4 .taken))
+
+sub-word : tie.Need-sub-word Inv-loop μ-loop
+sub-word c = omega (arith, grown-few (c .before .before .loop .inv .2))
+
+word-requires-3 : tie.Need-word-requires-3 Inv-loop μ-loop
+word-requires-3 c κs = (omega (arith, c .before .before .before .before .count .ensures, grown-few (c .before .before .loop .inv .2)), omega arith)
+
+is-root-requires : tie.Need-is-root-requires Inv-loop μ-loop
+is-root-requires c κs = tt
+
+returns-5 : tie.Need-returns-5 Inv-loop μ-loop
+returns-5 c =
+    rw (c .before .word3 .ensures) at (c .is-root .ensures)
+    ∙ rooted-last _ _ _ (c .before .before .before .before .before .before .count .result) (sym (c .before .before .before .before .before .if1 .left)) (c .before .before .before .before .before .before .count .result - c .before .before .before .before .loop .i) (omega arith) (omega arith) (c .before .before .before .before .loop .inv .2) (c .before .before .if4 .left)
+
+pub is-tree-spec : {M : Type 1} → statement M
+is-tree-spec =
+    tie.close
+    (tie.spec
+    Inv-loop
+    μ-loop
+    count-requires
+    mul-if1
+    returns
+    loop-holds
+    word-requires
+    wide-requires
+    returns-2
+    record-fits-requires
+    returns-3
+    add-depth
+    word-requires-2
+    wide-requires-2
+    add-at
+    add-i
+    loop-less
+    loop-again
+    returns-4
+    sub-word
+    word-requires-3
+    is-root-requires
+    returns-5)
