@@ -1,235 +1,28 @@
--- The records of a good grammar, taken back, are that grammar.
+-- A good grammar, stored, is decoded back.
 -- Assumes nothing.
-use Prim.Native.Nat.{ℕ, zero, suc}
+use Prim.Native.Nat.{ℕ}
 use borrow.Author.Tests.{ne-eqb}
 use mathlib.Core.Path.{_≡_, refl, ap, sym, _∙_}
 use mathlib.Core.Bool.{Bool, true, false, _||_, not}
 use mathlib.Core.List.{List, [], _∷_, _++_, map}
 use mathlib.Core.Option.{Option, none, some}
 use lib.Dec.{eqb}
-use Rattle.basics.specs.Basics.{if_then_else_, keepIf, firstOf}
-use Rattle.characters.specs.Spans.{Span}
-use Rattle.characters.specs.Utf8.{codes, encodeAll}
+use Rattle.basics.specs.Basics.{if_then_else_, firstOf}
 use Rattle.characters.proofs.Chars.{Scalars, codes-all}
-use Rattle.tree.specs.CharClasses.{classValue}
-use Rattle.tree.specs.Records.{Row, Branch, branch, Branches, []ᴮ, _∷ᴮ_}
-use Rattle.tree.specs.OneTree.{isExpression, kindOf}
-use Rattle.tree.specs.Stored.{named, valued, each, flag, partBranch, propBranch, markerNumber, markerBranch, spanBranch, specializeValue, repeatValue, expressionBranch, expressionBranches, slotBranches, nameBranch, sourceBranch, ruleBranch, referenceBranch, tokenPrecBranch, tokenConflictBranch, literalBranch, namedNodeBranch, fallbackBranches, precValue, precItemBranch, declarationBranch, externalPropBranch, grammarBranch}
-use Rattle.tree.specs.Syntax.{Identifier, PropPart, value, Prop, ConflictMarker, ConflictMarkerKind, ambiguity, precedence, SpecializeKind, extend, specialize, RepeatKind, optional, zeroOrMore, oneOrMore, CharClass, asciiLetter, asciiLowercase, asciiUppercase, digit, whitespace, eof, Expression, special, inline, choice, sequence, empty, repeat, set, any, class, Expressions, []ᴱ, _∷ᴱ_, Slots, last, slot, expressions, RuleDeclaration, TokenReference, referred, TokenPrecDeclaration, TokenConflictDeclaration, LiteralDeclaration, NamedNode, TokenDeclaration, LocalTokenDeclaration, ExternalTokenDeclaration, ExternalSpecializeDeclaration, ExternalPropDeclaration, PrecDeclaration, ScopedSkipDeclaration, PrecKind, left, right, cut, PrecItem, Declaration, topRule, rule, tokens, localTokens, context, externalTokens, externalSpecializer, externalPropSource, precedences, mainSkip, scopedSkip, GrammarDeclaration, startOf}
+use Rattle.tree.specs.Records.{Branch, branch, Branches, []ᴮ, _∷ᴮ_}
+use Rattle.tree.specs.OneTree.{kindOf}
+use Rattle.tree.specs.Stored.{valued, each, flag, propBranch, expressionBranch, nameBranch, sourceBranch, ruleBranch, referenceBranch, tokenPrecBranch, tokenConflictBranch, literalBranch, namedNodeBranch, fallbackBranches, precValue, precItemBranch, declarationBranch, externalPropBranch, grammarBranch}
+use Rattle.tree.specs.Syntax.{Identifier, Prop, RuleDeclaration, TokenReference, referred, TokenPrecDeclaration, TokenConflictDeclaration, LiteralDeclaration, NamedNode, TokenDeclaration, LocalTokenDeclaration, ExternalTokenDeclaration, ExternalSpecializeDeclaration, ExternalPropDeclaration, PrecDeclaration, ScopedSkipDeclaration, PrecKind, left, right, cut, PrecItem, Declaration, topRule, rule, tokens, localTokens, context, externalTokens, externalSpecializer, externalPropSource, precedences, mainSkip, scopedSkip, GrammarDeclaration}
 use Rattle.parser.specs.Limits.{levels}
 use Rattle.parser.specs.Expressions.{referenceOf}
-use Rattle.laws.specs.Starts.{onIdentifier, onPart, onProp, onMarker, onExpression, onExpressions, onSlots, onRule, onReference, onTokenPrec, onTokenConflict, onLiteral, onNamedNode, onFallback, onPrecItem, onExternalProp, onDeclaration, onGrammar}
-use Rattle.laws.proofs.Lists.{clash, append-none, append-one}
-use Rattle.laws.proofs.Fine.{U, Word}
-use Rattle.laws.proofs.Readable.{Every, every-none, every-more, GoodName, GoodPart, good-value, good-braced, GoodProp, GoodMarker, Grade, Each, each-none, each-more, Item, item-name, item-special, item-inline, item-choice, item-sequence, item-empty, item-repeat, item-literal, item-set, item-any, item-class, InSlots, in-last, in-slot, Arm, arm-sequence, arm-item, Arms, arms-none, arms-more, Level, level-choice, level-arm, Readable}
+use Rattle.laws.specs.Starts.{onIdentifier, onProp, onExpression, onRule, onReference, onTokenPrec, onTokenConflict, onLiteral, onNamedNode, onFallback, onPrecItem, onExternalProp, onDeclaration, onGrammar}
+use Rattle.laws.proofs.Lists.{clash, append-none}
+use Rattle.laws.proofs.Fine.{U}
+use Rattle.laws.proofs.Readable.{Every, every-none, every-more, GoodName, GoodProp}
 use Rattle.laws.proofs.MeetsExpressions.{Found, found-none, found-some, GoodRule}
 use Rattle.laws.proofs.Good.{Outer, GoodReference, GoodTokenPrec, GoodTokenConflict, GoodLiteral, GoodNode, GoodPrecItem, GoodSource, GoodExternalProp, GoodDeclaration, good-top, good-rule, good-tokens, good-local, good-context, good-external, good-specializer, good-prop-source, good-precedences, good-skip, good-scoped, GoodGrammar}
-use Rattle.laws.proofs.Decode.{pick, partIn, allIn, propIn, spanIn, markerIn, first, second, expressionBy, expressionIn, expressionsIn, slotsIn, nameIn, sourceIn, ruleIn, referenceIn, tokenPrecIn, tokenConflictIn, literalIn, nodeIn, precItemIn, declarationIn, externalPropIn, declarationsIn, grammarIn}
-
-abbrev zeroed : U → ℕ
-zeroed u = 0
-
--- ------------------------------------------------------------------ lists of branches
-
-module _ {X Y : Type 0} (z : X → Y) (g : Y → Branch) where
-  all-back : {A : X → Type 0} (f : Branch → X) → ((x : X) → A x → f (g (z x)) ≡ x) → {xs : List X} → Every A xs → allIn f (each g (map z xs) []ᴮ) ≡ xs
-  unfolding allIn each
-  all-back f e every-none = refl
-  all-back f e (every-more {x} {xs} a q) = rw (e x a, all-back f e q)
-
-  pick-same : {A : X → Type 0} (k : ℕ) (f : Branch → X) → ((x : X) → eqb (kindOf (g (z x))) k ≡ true) → ((x : X) → A x → f (g (z x)) ≡ x) → {xs : List X} → Every A xs → (bs : Branches)
-      → pick k f (each g (map z xs) bs) ≡ xs ++ pick k f bs
-  unfolding pick each
-  pick-same k f h e every-none bs = refl
-  pick-same k f h e (every-more {x} {xs} a q) bs = rw (h x, e x a, pick-same k f h e q bs)
-
-module _ {Y : Type 0} (g : Y → Branch) where
-  pick-other : {A : Type 0} (k : ℕ) (f : Branch → A) → ((y : Y) → eqb (kindOf (g y)) k ≡ false) → (ys : List Y) (bs : Branches) → pick k f (each g ys bs) ≡ pick k f bs
-  unfolding pick each
-  pick-other k f h [] bs = refl
-  pick-other k f h (y ∷ ys) bs = rw (h y) (pick-other k f h ys bs)
-
-  expressions-skip : ((y : Y) → isExpression (kindOf (g y)) ≡ false) → (ys : List Y) (bs : Branches) → expressionsIn (each g ys bs) ≡ expressionsIn bs
-  unfolding expressionIn each
-  expressions-skip h [] bs = refl
-  expressions-skip h (y ∷ ys) bs = rw (h y) (expressions-skip h ys bs)
-
--- ------------------------------------------------------------------ props and markers
-
-part-back : (x : PropPart U) → GoodPart x → partIn (partBranch (onPart zeroed x)) ≡ x
-unfolding partIn
-part-back (value p t) (good-value s) = ap (value tt) (codes-all s)
-part-back (PropPart.name p t) (good-braced w) = ap (PropPart.name tt) (codes-all (w .scalars))
-
-flag-back : (b : Bool) → eqb (flag b) 1 ≡ b
-flag-back true = refl
-flag-back false = refl
-
-prop-back : (x : Prop U) → GoodProp x → propIn (propBranch (onProp zeroed x)) ≡ x
-unfolding propIn
-prop-back x g = rw (flag-back (x .at), codes-all (g .word .scalars), all-back (onPart zeroed) partBranch partIn part-back (g .parts))
-
-marker-kind : (k : ConflictMarkerKind) → (if eqb (markerNumber k) 41 then ambiguity else precedence) ≡ k
-marker-kind ambiguity = refl
-marker-kind precedence = refl
-
-marker-back : (m : ConflictMarker U) → GoodMarker m → markerIn (markerBranch (onMarker zeroed m)) ≡ m
-unfolding markerIn
-marker-back m g = rw (codes-all (g .word .scalars), marker-kind (m .kind))
-
-marker-plain : (m : ConflictMarker ℕ) → isExpression (kindOf (markerBranch m)) ≡ false
-marker-plain m = go (m .kind)
-  where
-    go : (k : ConflictMarkerKind) → isExpression (markerNumber k) ≡ false
-    go ambiguity = refl
-    go precedence = refl
-
-span-back : (p : ℕ) (s : Span) → spanIn (spanBranch p s) ≡ s
-unfolding spanIn
-span-back p s = refl
-
-spans-back : (p : ℕ) (ss : List Span) → allIn spanIn (each (spanBranch p) ss []ᴮ) ≡ ss
-unfolding allIn each spanIn
-spans-back p [] = refl
-spans-back p (s ∷ ss) = ap (λ l. s ∷ l) (spans-back p ss)
-
--- ------------------------------------------------------------------ expressions
-
-abbrev Z : Expression U → Expression ℕ
-Z e = onExpression zeroed e
-
-expression-kind : (e : Expression ℕ) → isExpression (kindOf (expressionBranch e)) ≡ true
-unfolding expressionBranch
-expression-kind (Expression.name p t es) = refl
-expression-kind (special p k ps e f) = refl
-expression-kind (inline p t ps e) = refl
-expression-kind (choice p es) = refl
-expression-kind (sequence p s) = refl
-expression-kind (empty p) = refl
-expression-kind (repeat p k e) = refl
-expression-kind (Expression.literal p t) = refl
-expression-kind (set p i ss) = refl
-expression-kind (any p) = refl
-expression-kind (class p c) = refl
-
--- an expression that stands first
-expression-first : (e : Expression ℕ) (bs : Branches) → expressionsIn (expressionBranch e ∷ᴮ bs) ≡ expressionIn (expressionBranch e) ∷ expressionsIn bs
-unfolding expressionIn
-expression-first e bs = rw (expression-kind e)
-
-pick-expression : {A : Type 0} (k : ℕ) (f : Branch → A) → isExpression k ≡ false → (e : Expression ℕ) (bs : Branches) → pick k f (expressionBranch e ∷ᴮ bs) ≡ pick k f bs
-unfolding pick
-pick-expression k f h e bs = rw (ne-eqb (kindOf (expressionBranch e)) k (λ q. clash (isExpression k) (ap isExpression (sym q) ∙ expression-kind e) h))
-
-specialize-back : (k : SpecializeKind) → (if eqb (specializeValue k) 1 then extend else specialize) ≡ k
-specialize-back extend = refl
-specialize-back specialize = refl
-
-module _ (R : Grade) (back : (e : Expression U) → R e → expressionIn (expressionBranch (Z e)) ≡ e) where
-  each-back : {es : Expressions U} → Each R es → expressions (expressionsIn (expressionBranches (onExpressions zeroed es))) ≡ es
-  unfolding expressionBranch onExpression expressionIn expressions
-  each-back each-none = refl
-  each-back (each-more {e} {es} r q) = rw (expression-kind (Z e), back e r, each-back q)
-
-  -- props, and then one expression, or two
-  props-one : (ps : List (Prop U)) → Every GoodProp ps → (e : Expression ℕ) (bs : Branches) → pick 5 propIn bs ≡ [] → pick 5 propIn (each propBranch (map (onProp zeroed) ps) (expressionBranch e ∷ᴮ bs)) ≡ ps
-  props-one ps g e bs h = pick-same (onProp zeroed) propBranch 5 propIn (λ x. refl) prop-back g (expressionBranch e ∷ᴮ bs) ∙ rw (pick-expression 5 propIn refl e bs, h, append-none ps)
-
-  props-then : (ps : List (Prop U)) (e : Expression ℕ) (bs : Branches) → expressionsIn (each propBranch (map (onProp zeroed) ps) (expressionBranch e ∷ᴮ bs)) ≡ expressionIn (expressionBranch e) ∷ expressionsIn bs
-  props-then ps e bs = expressions-skip propBranch (λ x. refl) (map (onProp zeroed) ps) (expressionBranch e ∷ᴮ bs) ∙ expression-first e bs
-
-  name-back : (t : List ℕ) (es : Expressions U) → Word t → Each R es → expressionIn (expressionBranch (Z (Expression.name tt t es))) ≡ Expression.name tt t es
-  unfolding expressionBranch onExpression expressionIn expressionBy
-  name-back t es w q = rw (codes-all (w .scalars), each-back q)
-
-  special-back : (k : SpecializeKind) (ps : List (Prop U)) (e f : Expression U) → Every GoodProp ps → expressionIn (expressionBranch (Z e)) ≡ e → expressionIn (expressionBranch (Z f)) ≡ f
-      → expressionIn (expressionBranch (Z (special tt k ps e f))) ≡ special tt k ps e f
-  unfolding expressionBranch onExpression expressionIn expressionBy pick
-  special-back k ps e f g b c =
-      rw (specialize-back k, props-one ps g (Z e) (expressionBranch (Z f) ∷ᴮ []ᴮ) (pick-expression 5 propIn refl (Z f) []ᴮ), props-then ps (Z e) (expressionBranch (Z f) ∷ᴮ []ᴮ), expression-first (Z f) []ᴮ, b, c)
-
-  inline-back : (t : List ℕ) (ps : List (Prop U)) (e : Expression U) → Word t → Every GoodProp ps → expressionIn (expressionBranch (Z e)) ≡ e → expressionIn (expressionBranch (Z (inline tt t ps e))) ≡ inline tt t ps e
-  unfolding expressionBranch onExpression expressionIn expressionBy pick
-  inline-back t ps e w g b = rw (codes-all (w .scalars), props-one ps g (Z e) []ᴮ refl, props-then ps (Z e) []ᴮ, b)
-
-  empty-back : expressionIn (expressionBranch (Z (empty tt))) ≡ empty tt
-  unfolding expressionBranch onExpression expressionIn expressionBy
-  empty-back = refl
-
-  repeat-back : (k : RepeatKind) (e : Expression U) → expressionIn (expressionBranch (Z e)) ≡ e → expressionIn (expressionBranch (Z (repeat tt k e))) ≡ repeat tt k e
-  unfolding expressionBranch onExpression expressionIn expressionBy
-  repeat-back optional e b = rw (expression-first (Z e) []ᴮ, b)
-  repeat-back zeroOrMore e b = rw (expression-first (Z e) []ᴮ, b)
-  repeat-back oneOrMore e b = rw (expression-first (Z e) []ᴮ, b)
-
-  literal-back : (t : List ℕ) → Scalars t → expressionIn (expressionBranch (Z (Expression.literal tt t))) ≡ Expression.literal tt t
-  unfolding expressionBranch onExpression expressionIn expressionBy
-  literal-back t s = ap (Expression.literal tt) (codes-all s)
-
-  set-back : (i : Bool) (ss : List Span) → expressionIn (expressionBranch (Z (set tt i ss))) ≡ set tt i ss
-  unfolding expressionBranch onExpression expressionIn expressionBy
-  set-back i ss = rw (flag-back i, spans-back 0 ss)
-
-  any-back : expressionIn (expressionBranch (Z (any tt))) ≡ any tt
-  unfolding expressionBranch onExpression expressionIn expressionBy
-  any-back = refl
-
-  class-back : (c : CharClass) → expressionIn (expressionBranch (Z (class tt c))) ≡ class tt c
-  unfolding expressionBranch onExpression expressionIn expressionBy
-  class-back asciiLetter = refl
-  class-back asciiLowercase = refl
-  class-back asciiUppercase = refl
-  class-back digit = refl
-  class-back whitespace = refl
-  class-back eof = refl
-
-  item-back : {e : Expression U} → Item R e → expressionIn (expressionBranch (Z e)) ≡ e
-  item-back (item-name {p} {t} {es} w n q b) = name-back t es w q
-  item-back (item-special {p} {k} {ps} {e} {f} g r q) = special-back k ps e f g (back e r) (back f q)
-  item-back (item-inline {p} {t} {ps} {e} w n g r) = inline-back t ps e w g (back e r)
-  item-back (item-choice r) = back _ r
-  item-back (item-sequence r b) = back _ r
-  item-back item-empty = empty-back
-  item-back (item-repeat {p} {k} {e} i h) = repeat-back k e (item-back i)
-  item-back (item-literal {p} {c} {cs} s) = literal-back (c ∷ cs) s
-  item-back (item-set {p} {i} {ss} g) = set-back i ss
-  item-back item-any = any-back
-  item-back (item-class {p} {c}) = class-back c
-
-  markers-in : (ms : List (ConflictMarker U)) {ns : List (ConflictMarker U)} → Every GoodMarker ns → (bs : Branches) → slotsIn ms (each markerBranch (map (onMarker zeroed) ns) bs) ≡ slotsIn (ms ++ ns) bs
-  unfolding expressionIn each
-  markers-in ms every-none bs = rw (append-none ms)
-  markers-in ms (every-more {x = n} {xs = ns} g q) bs = rw (marker-plain (onMarker zeroed n), marker-back n g, markers-in (ms ++ n ∷ []) q bs, append-one ms n ns)
-
-  slots-back : {s : Slots U} → InSlots R s → slotsIn [] (slotBranches (onSlots zeroed s)) ≡ s
-  unfolding expressionBranch onExpression expressionIn
-  slots-back (in-last g) = markers-in [] g []ᴮ
-  slots-back (in-slot {ms} {e} {s} g i q) = markers-in [] g (expressionBranch (Z e) ∷ᴮ slotBranches (onSlots zeroed s)) ∙ rw (expression-kind (Z e), item-back i, slots-back q)
-
-  sequence-back : {s : Slots U} → InSlots R s → expressionIn (expressionBranch (Z (sequence tt s))) ≡ sequence tt s
-  unfolding expressionBranch onExpression expressionIn expressionBy
-  sequence-back q = ap (sequence tt) (slots-back q)
-
-  arm-back : {e : Expression U} → Arm R e → expressionIn (expressionBranch (Z e)) ≡ e
-  arm-back (arm-sequence q l) = sequence-back q
-  arm-back (arm-item i h) = item-back i
-
-  arms-back : {es : Expressions U} → Arms R es → expressions (expressionsIn (expressionBranches (onExpressions zeroed es))) ≡ es
-  unfolding expressionBranch onExpression expressionIn expressions
-  arms-back arms-none = refl
-  arms-back (arms-more {e} {es} a h q) = rw (expression-kind (Z e), arm-back a, arms-back q)
-
-  choice-back : (es : Expressions U) → Arms R es → expressionIn (expressionBranch (Z (choice tt es))) ≡ choice tt es
-  unfolding expressionBranch onExpression expressionIn expressionBy
-  choice-back es q = ap (choice tt) (arms-back q)
-
-  level-back : {e : Expression U} → Level R e → expressionIn (expressionBranch (Z e)) ≡ e
-  level-back (level-choice q) = choice-back _ q
-  level-back (level-arm a h) = arm-back a
-
-expression-back : (l : ℕ) (e : Expression U) → Readable l e → expressionIn (expressionBranch (Z e)) ≡ e
-expression-back zero e r = absurd r
-expression-back (suc l) e r = level-back (Readable l) (expression-back l) r
+use Rattle.laws.proofs.Decode.{pick, propIn, expressionIn, expressionsIn, nameIn, sourceIn, ruleIn, referenceIn, tokenPrecIn, tokenConflictIn, literalIn, nodeIn, precItemIn, declarationIn, externalPropIn, declarationsIn, grammarIn}
+use Rattle.laws.proofs.DecodeBackExpressions.{zeroed, pick-same, pick-other, expressions-skip, flag-back, prop-back, Z, expression-first, pick-expression, specialize-back, item-back, expression-back}
 
 -- ------------------------------------------------------------------ rules and members of blocks
 
@@ -338,25 +131,25 @@ unfolding pick
 pick-none k f = refl
 
 module _ (x : TokenDeclaration U) (a : Every GoodTokenPrec (x .precedences)) (b : Every GoodTokenConflict (x .conflicts)) (c : Every (GoodRule Outer) (x .rules)) (d : Every GoodLiteral (x .literals)) where
-  abbrev ps : List (TokenPrecDeclaration ℕ)
+  abbrev pub ps : List (TokenPrecDeclaration ℕ)
   ps = map (onTokenPrec zeroed) (x .precedences)
 
-  abbrev cs : List (TokenConflictDeclaration ℕ)
+  abbrev pub cs : List (TokenConflictDeclaration ℕ)
   cs = map (onTokenConflict zeroed) (x .conflicts)
 
-  abbrev rs : List (RuleDeclaration ℕ)
+  abbrev pub rs : List (RuleDeclaration ℕ)
   rs = map (onRule zeroed) (x .rules)
 
-  abbrev ls : List (LiteralDeclaration ℕ)
+  abbrev pub ls : List (LiteralDeclaration ℕ)
   ls = map (onLiteral zeroed) (x .literals)
 
-  abbrev from-literals : Branches
+  abbrev pub from-literals : Branches
   from-literals = each literalBranch ls []ᴮ
 
-  abbrev from-rules : Branches
+  abbrev pub from-rules : Branches
   from-rules = each (ruleBranch 3) rs from-literals
 
-  abbrev from-conflicts : Branches
+  abbrev pub from-conflicts : Branches
   from-conflicts = each tokenConflictBranch cs from-rules
 
   token-precs : pick 9 tokenPrecIn (each tokenPrecBranch ps from-conflicts) ≡ x .precedences
@@ -396,16 +189,16 @@ module _ (x : TokenDeclaration U) (a : Every GoodTokenPrec (x .precedences)) (b 
   tokens-back = rw (token-precs, token-conflicts, token-rules, token-literals)
 
 module _ (x : LocalTokenDeclaration U) (a : Every GoodTokenPrec (x .precedences)) (b : Every (GoodRule Outer) (x .rules)) (f : Found GoodNode (x .fallback)) where
-  abbrev local-ps : List (TokenPrecDeclaration ℕ)
+  abbrev pub local-ps : List (TokenPrecDeclaration ℕ)
   local-ps = map (onTokenPrec zeroed) (x .precedences)
 
-  abbrev local-rs : List (RuleDeclaration ℕ)
+  abbrev pub local-rs : List (RuleDeclaration ℕ)
   local-rs = map (onRule zeroed) (x .rules)
 
-  abbrev from-fallback : Branches
+  abbrev pub from-fallback : Branches
   from-fallback = fallbackBranches (onFallback zeroed (x .fallback))
 
-  abbrev from-local : Branches
+  abbrev pub from-local : Branches
   from-local = each (ruleBranch 3) local-rs from-fallback
 
   fallback-other : {A : Type 0} (k : ℕ) (g : Branch → A) → eqb 13 k ≡ false → (o : Option (NamedNode U)) → pick k g (fallbackBranches (onFallback zeroed o)) ≡ []
@@ -432,10 +225,10 @@ module _ (x : LocalTokenDeclaration U) (a : Every GoodTokenPrec (x .precedences)
   local-back = rw (local-precs, local-rules, local-fallback, fallback-back f)
 
 module _ (xs : List (NamedNode U)) (ns : List (Identifier U)) (a : Every GoodNode xs) (b : Every GoodName ns) where
-  abbrev zs : List (NamedNode ℕ)
+  abbrev pub zs : List (NamedNode ℕ)
   zs = map (onNamedNode zeroed) xs
 
-  abbrev from-names : Branches
+  abbrev pub from-names : Branches
   from-names = each (nameBranch 17) (map (onIdentifier zeroed) ns) []ᴮ
 
   external-sources : pick 15 sourceIn (each namedNodeBranch zs from-names) ≡ []

@@ -29,8 +29,10 @@ use Rattle.laws.proofs.Appends.{Adds, declaration-adds, dialects-adds, 
 use Rattle.laws.proofs.Good.{Outer, GoodNode, GoodPrecItem, GoodSource, GoodExternalProp, GoodDeclaration, good-top, good-rule, good-tokens, good-local, good-context, good-external, good-specializer, good-prop-source, good-precedences, good-skip, good-scoped, Singles, GoodGrammar}
 use Rattle.laws.proofs.Groups.{Fresh, singles-fresh}
 use Rattle.laws.proofs.ReadBack.{laid, Reads, bind-reads, pure-reads, choose-true, choose-false, here-reads, kind-reads, arrive-reads, next-reads, eatName-yes, eatAt-yes, eatAt-no, expect-reads, expectName-reads, expectString-reads, parseIdentifier-reads, Back, over, turn, loop-reads}
-use Rattle.laws.proofs.ReadBackExpressions.{longer, Stops, stop-brace, stop-paren, stop-comma, stop-angle}
-use Rattle.laws.proofs.ReadBackDeclarations.{outer-braced, names-reads, names-longer, rule-reads, rule-longer, tokens-reads, local-tokens-reads, skip-block, skip-tops, skip-rules, skipMembers, GoodExternalMember, externalMembers, external-every, nodes-every, external-nodes, external-names, external-set, picked-append, picked-all, picked-no, apart, braces-reads}
+use Rattle.laws.proofs.Follows.{longer, Stops, stop-brace, stop-paren, stop-comma, stop-angle}
+use Rattle.laws.proofs.ReadBackRules.{outer-braced, names-reads, names-longer, rule-reads, rule-longer, picked-append, picked-all, picked-no, braces-reads}
+use Rattle.laws.proofs.ReadBackTokens.{tokens-reads, local-tokens-reads, apart}
+use Rattle.laws.proofs.ReadBackBlocks.{skip-block, skip-tops, skip-rules, skipMembers, GoodExternalMember, externalMembers, external-every, nodes-every, external-nodes, external-names, external-set}
 
 -- ------------------------------------------------------------------ sources and precedences
 
