@@ -6,7 +6,7 @@ use mathlib.Core.Path.{_≡_, refl}
 use mathlib.Core.Bool.{Bool, true, false}
 use mathlib.Core.List.{List, [], _∷_}
 use Rattle.basics.specs.Basics.{letters, same}
-use Rattle.characters.specs.Utf8.{isScalar}
+use Rattle.characters.specs.Utf8.{isScalar, encode, encodeAll}
 use Rattle.characters.specs.Spans.{inSpans}
 use Rattle.characters.specs.Alphabetic.{spans, isAlphabetic}
 use Rattle.characters.specs.Classes.{whiteSpace, isWhitespace, isEcmascriptWhitespace, isLineTerminator, isPunctuation, isWord}
@@ -17,12 +17,10 @@ use Rattle.lexer.specs.Sets.{rangeEnd, written, overlapsOne, faultFrom, insert,
 use Rattle.tree.specs.Syntax.{GrammarDeclaration}
 use Rattle.parser.specs.Parser.{Answer, read, refused}
 use Rattle.parser.specs.Declarations.{parseGrammar}
-use Rattle.writer.specs.Spelling.{spell, spaced}
-use Rattle.writer.specs.NormalText.{lines, linesText}
+use Rattle.writer.specs.NormalText.{normalText}
 
--- a grammar's text, before it is encoded
 abbrev textOf : Answer ℕ (GrammarDeclaration ℕ) → List ℕ
-textOf (read g ts) = linesText (lines g)
+textOf (read g ts) = normalText g
 textOf (refused n p) = []
 
 -- read and written again
@@ -30,14 +28,14 @@ unfoldable pub again : String → List ℕ
 unfolding
     isScalar inSpans spans isAlphabetic whiteSpace isWhitespace isEcmascriptWhitespace isLineTerminator isPunctuation isWord run comment
     body solid piece tokensFrom tokens hexDigit scalar fixed untilBrace braced control escape atomsFrom decodeString rangeEnd written
-    overlapsOne faultFrom insert sorted parseGrammar spell spaced lines linesText
+    overlapsOne faultFrom insert sorted parseGrammar normalText
 again s = textOf (parseGrammar (tokens (letters s)))
 
 -- the texts that come out otherwise
 unfoldable pub changed : List String → List String
-unfolding same again
+unfolding same encode encodeAll again
 changed [] = []
-changed (s ∷ ss) = elim (same (again s) (letters s)) [ true ↦ changed ss | false ↦ s ∷ changed ss ]
+changed (s ∷ ss) = elim (same (again s) (encodeAll (letters s))) [ true ↦ changed ss | false ↦ s ∷ changed ss ]
 
 abbrev pub table : List String
 table =
@@ -47,6 +45,7 @@ table =
     ∷ "@top T { a | ( b | c ) }\n"
     -- more than one declaration, in the order of the records
     ∷ "@top T { a }\na { b }\n@skip { c }\n@dialects { d }\n@detectDelim\n"
+    ∷ "@top T { t }\n@tokens { t { u } \"v\" }\n"
     -- two empty arguments are not one, and not none
     ∷ "@top T { a < , > }\n"
     -- a quote and a backslash in a string
