@@ -2,3 +2,4 @@ pub mod Numbers
 pub mod Back
 pub mod Matching
 pub mod Trees
+pub mod Equal

@@ -84,8 +84,8 @@ groupsIn (n ∷ ns) = if eqb n 0 then [] else groupOf n ∷ groupsIn ns
 
 -- the root that is asked for
 abbrev pub rootOf : Root → ℕ → Bool
-rootOf Root.Expression k = isExpression k
-rootOf Root.Grammar k = eqb k 1
+rootOf Root.Expression = isExpression
+rootOf Root.Grammar = λ k. eqb k 1
 
 abbrev pub isSome : Option Branch → Bool
 isSome none = false

@@ -5,6 +5,7 @@ ghost use mathlib.Core.Path.{_≡_};
 ghost use Prim.Native.Nat.{ℕ, _+_, _*_, _≤_, _<_};
 ghost use mathlib.Core.List.{reverse};
 ghost use lib.ListN.{length};
+ghost use lib.Dec.{eqb};
 ghost use mathlib.Core.Bool.{_||_};
 ghost use Rattle.basics.specs.Basics.{among, same, within};
 ghost use Rattle.tree.specs.Records.{width};
@@ -414,4 +415,94 @@ pub fn is_tree(root: Root, records: &[u32], texts: &[u8]) -> bool
         return false;
     }
     is_root(root, word(records, n - 1, KIND))
+}
+
+fn same_bytes(left: &[u8], right: &[u8]) -> bool
+    ensures { λ r. ⌜ r ≡ same (now (left .entry)) (now (right .entry)) ⌝ }
+{
+    check::same(left, right)
+}
+
+// The text of a record.
+pub fn text<'a>(records: &[u32], texts: &'a [u8], i: usize) -> &'a [u8]
+    requires { ⌜ (i < countOf (now records)) × (wordAt (now records) i 2 + wordAt (now records) i 3 ≤ length (now texts)) ⌝ }
+    ensures { λ r. ⌜ now r ≡ nodeAt (now (records .entry)) (now (texts .entry)) i .row .text ⌝ }
+{
+    let place = wide(word(records, i, PLACE));
+    let end = place + wide(word(records, i, SIZE));
+    &texts[place..end]
+}
+
+// A prop's value, which is its `@`, is not compared.
+fn same_value(kind: u32, left: u32, right: u32) -> bool
+    ensures { λ r. ⌜ r ≡ (eqb kind 5 || eqb left right) ⌝ }
+{
+    if kind == 5 {
+        return true;
+    }
+    left == right
+}
+
+// The records i of two trees are the same: all but starts, places of texts, and a prop's value.
+fn same_record(
+    left_records: &[u32],
+    left_texts: &[u8],
+    right_records: &[u32],
+    right_texts: &[u8],
+    i: usize,
+) -> bool
+    requires { ⌜ (i < countOf (now «left_records»)) × (wordAt (now «left_records») i 2 + wordAt (now «left_records») i 3 ≤ length (now «left_texts»)) ⌝ }
+    requires { ⌜ (i < countOf (now «right_records»)) × (wordAt (now «right_records») i 2 + wordAt (now «right_records») i 3 ≤ length (now «right_texts»)) ⌝ }
+    ensures { λ r. ⌜ r ≡ sameNode (nodeAt (now («left_records» .entry)) (now («left_texts» .entry)) i) (nodeAt (now («right_records» .entry)) (now («right_texts» .entry)) i) ⌝ }
+{
+    let kind = word(left_records, i, KIND);
+    if kind != word(right_records, i, KIND) {
+        return false;
+    }
+    if !same_value(
+        kind,
+        word(left_records, i, VALUE),
+        word(right_records, i, VALUE),
+    ) {
+        return false;
+    }
+    if word(left_records, i, SECOND) != word(right_records, i, SECOND) {
+        return false;
+    }
+    if word(left_records, i, CHILDREN) != word(right_records, i, CHILDREN) {
+        return false;
+    }
+    same_bytes(
+        text(left_records, left_texts, i),
+        text(right_records, right_texts, i),
+    )
+}
+
+// `Expression::structurally_eq` on stored trees: record by record, once each is found to be a tree.
+pub fn structurally_eq(
+    left_records: &[u32],
+    left_texts: &[u8],
+    right_records: &[u32],
+    right_texts: &[u8],
+) -> Comparison
+    ensures { λ r. ⌜ r ≡ comparison (build isExpression (now («left_records» .entry)) (now («left_texts» .entry))) (build isExpression (now («right_records» .entry)) (now («right_texts» .entry))) ⌝ }
+{
+    if !is_tree(Root::Expression, left_records, left_texts) {
+        return Comparison::NotATree;
+    }
+    if !is_tree(Root::Expression, right_records, right_texts) {
+        return Comparison::NotATree;
+    }
+    if left_records.len() != right_records.len() {
+        return Comparison::Different;
+    }
+    let n = count(left_records);
+    let mut i = 0;
+    while i < n {
+        if !same_record(left_records, left_texts, right_records, right_texts, i) {
+            return Comparison::Different;
+        }
+        i += 1;
+    }
+    Comparison::Equal
 }
