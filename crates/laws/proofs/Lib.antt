@@ -32,3 +32,4 @@ pub mod SameTokens
 pub mod TextBack
 pub mod Accepted
 pub mod Demand3
+pub mod Calls

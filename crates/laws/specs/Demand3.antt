@@ -4,12 +4,13 @@ use Prim.Native.Nat.{ℕ, _≤_}
 use mathlib.Core.Path.{_≡_}
 use mathlib.Core.Bool.{Bool, true}
 use mathlib.Core.List.{List}
-use lib.ListN.{length}
+use lib.ListN.{length, take}
 use Rattle.tree.specs.Syntax.{GrammarDeclaration}
 use Rattle.tree.specs.Stored.{grammarWords, grammarTexts}
 use Rattle.tree.specs.Equality.{agree}
 use Rattle.writer.specs.NormalText.{normalText}
 use Rattle.grammar.specs.Reading.{Reading, tree, reading, longest}
+use Rattle.grammar.specs.Calls.{NormalAnswer, written, NormalOutcome, normal}
 
 infix 4 _reads_
 abbrev Tree : Type 0
@@ -40,3 +41,10 @@ abbrev pub AgreeingTreesTakeTheSameRoom : Type 0
 AgreeingTreesTakeTheSameRoom =
     (g h : Tree) → agree g h ≡ true
     → (length (grammarWords g) ≡ length (grammarWords h)) × (length (grammarTexts g) ≡ length (grammarTexts h))
+
+-- So `normal`, handed what it wrote, writes the same bytes again into buffers of the same lengths.
+abbrev pub NormalOfItsOutput : Type 0
+NormalOfItsOutput =
+    (text records texts output : List ℕ) (n : ℕ) → normal text records texts output .answer ≡ written n
+    → (normal (take n (normal text records texts output .output)) records texts output .answer ≡ written n)
+    × (normal (take n (normal text records texts output .output)) records texts output .output ≡ normal text records texts output .output)
