@@ -17,13 +17,11 @@ use Rattle.laws.proofs.Fine.{U}
 use Rattle.laws.proofs.Flat.{bareBranch, bareBranches, agreed, agrees}
 use Rattle.laws.proofs.Good.{GoodGrammar}
 use Rattle.laws.proofs.Decode.{grammarIn}
+use Rattle.laws.proofs.DecodeBackExpressions.{zeroed}
 use Rattle.laws.proofs.DecodeBack.{grammar-branch, grammar-back}
 
 abbrev out : ℕ → U
 out p = tt
-
-abbrev zeroed : U → ℕ
-zeroed u = 0
 
 -- ------------------------------------------------------------------ a tree of records without starts is that of the tree without starts
 

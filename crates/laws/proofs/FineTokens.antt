@@ -25,7 +25,7 @@ use Rattle.lexer.specs.Sets.{dash, rangeEnd, spanBy, written, spans, fault, sor
 use Rattle.lexer.proofs.Back.{Words, no-more}
 use Rattle.lexer.proofs.Back as B
 use Rattle.lexer.proofs.Escaped.{Short, escape-short}
-use Rattle.laws.proofs.Lists.{clash}
+use Rattle.laws.proofs.Lists.{clash, not-empty}
 use Rattle.laws.proofs.SpansFine.{ScalarAtoms, no-atoms, more-atoms, read-back}
 use Rattle.laws.proofs.Fine.{Word, ReadBack, FineKind, fine-name, fine-at, fine-string, fine-set, fine-mark, Fine, fine-token, fine-eof, fine-bad}
 
@@ -101,9 +101,6 @@ set-fine-piece : (i : Bool) {cs : List ℕ} → Scalars cs → (o : Option ℕ) 
 set-fine-piece i s none = fine-badness
 set-fine-piece i s (some n) = fine-piece (fine-set (read-back (atoms-scalar 0 (take-scalars n s))))
 
-not-empty : {A : Type 0} (x : A) (xs : List A) → x ∷ xs ≡ [] → ⊥
-not-empty x xs e = let z : _≡_ {A = ℕ} 0 1 = cc in omega arith
-
 empty-run : (n : ℕ) → run isWord [] ≡ suc n → ⊥
 unfolding run
 empty-run n e = omega arith
@@ -115,10 +112,10 @@ at-fine {cs} s (suc n) e = fine-piece (fine-at (record { some = some-taken cs n 
   where
     some-taken : (cs : List ℕ) (n : ℕ) → run isWord cs ≡ suc n → take (suc n) cs ≡ [] → ⊥
     some-taken [] n e q = empty-run n e
-    some-taken (c ∷ cs) n e q = not-empty c (take n cs) q
+    some-taken (c ∷ cs) n e q = not-empty q
 
 name-fine : (c : ℕ) → isScalar c ≡ true → isWord c ≡ true → {cs : List ℕ} → Scalars cs → FineKind (Kind.name (c ∷ take (run isWord cs) cs))
-name-fine c s w {cs} t = fine-name (record { some = not-empty c (take (run isWord cs) cs); words = B.one-more w (run-words cs); scalars = one-more s (take-scalars (run isWord cs) t) })
+name-fine c s w {cs} t = fine-name (record { some = not-empty; words = B.one-more w (run-words cs); scalars = one-more s (take-scalars (run isWord cs) t) })
 
 if-fine : (b : Bool) {p q : Piece} → (b ≡ true → FinePiece p) → (b ≡ false → FinePiece q) → FinePiece (if b then p else q)
 if-fine true h k = h refl

@@ -9,6 +9,7 @@ use mathlib.Core.Bool.{Bool, true, false, _&&_, _||_}
 use mathlib.Core.List.{List, [], _∷_, _++_}
 use mathlib.Core.Option.{Option, none, some}
 use Rattle.basics.specs.Basics.{letters, is}
+use Rattle.basics.proofs.Tests.{both-true}
 use Rattle.characters.specs.Classes.{whiteSpace, isPunctuation, isWord}
 use Rattle.characters.specs.Alphabetic.{spans, isAlphabetic}
 use Rattle.characters.specs.Spans.{Span, inSpans}
@@ -22,7 +23,7 @@ use Rattle.tree.specs.Syntax.{Identifier, PropPart, value, Prop, ConflictMarker
 use Rattle.writer.specs.Spelling.{quoted, spansText, spell}
 use Rattle.writer.specs.NormalText.{each, eachAfter, commas, bracketed, mark, at, word, string, identifier, markerSign, repeatSign, specializeWord, className, bracketIf, propName, partTokens, valueTokens, propTokens, propsTokens, isChoice, isSequence, markerTokens, expressionTokens, argumentsTokens, moreArguments, armsTokens, moreArms, slotsTokens, bodyTokens}
 use Rattle.writer.proofs.Back.{quoted-body, spans-body, Ascii, no-ascii, more-ascii, spans-ascii}
-use Rattle.laws.proofs.Lists.{clash}
+use Rattle.laws.proofs.Lists.{not-empty}
 use Rattle.laws.proofs.Fine.{U, Word}
 use Rattle.laws.proofs.Readable.{Every, every-none, every-more, GoodName, GoodPart, good-value, good-braced, GoodProp, GoodMarker, Grade, Each, each-none, each-more, Item, item-name, item-special, item-inline, item-choice, item-sequence, item-empty, item-repeat, item-literal, item-set, item-any, item-class, InSlots, in-last, in-slot, Arm, arm-sequence, arm-item, Arms, arms-none, arms-more, Level, level-choice, level-arm, Readable}
 
@@ -83,21 +84,13 @@ set-lexable false ss =
 set-lexable true ss =
     record { written = a-not-set (spans-body ss); scalars = one-more (ascii 0x21 (omega arith)) (between-brackets ss) }
 
-and-left : (a b : Bool) → (a && b) ≡ true → a ≡ true
-and-left true b e = refl
-and-left false b e = e
-
-and-right : (a b : Bool) → (a && b) ≡ true → b ≡ true
-and-right true b e = e
-and-right false b e = clash false e refl
-
 unfoldable pub isSign : ℕ → Bool
 unfolding isPunctuation isScalar
 isSign c = isPunctuation c && isScalar c
 
 pub sign : (c : Char) → isSign (code c) ≡ true → Lexable (Kind.mark (code c))
 unfolding spell isSign isPunctuation isScalar
-sign c h = record { written = a-mark (and-left (isPunctuation (code c)) (isScalar (code c)) h); scalars = one-more (and-right (isPunctuation (code c)) (isScalar (code c)) h) none-left }
+sign c h = let k = both-true (isPunctuation (code c)) (isScalar (code c)) h in record { written = a-mark (k .0); scalars = one-more (k .1) none-left }
 
 -- a keyword: characters of names, and codes that UTF-8 writes
 unfoldable pub isKeyword : List ℕ → Bool
@@ -108,8 +101,9 @@ isKeyword (c ∷ cs) = isWord c && (isScalar c && isKeyword cs)
 keyword-parts : (c : ℕ) (cs : List ℕ) → isKeyword (c ∷ cs) ≡ true → (isWord c ≡ true) × (isScalar c ≡ true) × (isKeyword cs ≡ true)
 unfolding isKeyword inSpans spans isAlphabetic isWord isScalar
 keyword-parts c cs h =
-    let r = and-right (isWord c) (isScalar c && isKeyword cs) h in
-    (and-left (isWord c) (isScalar c && isKeyword cs) h, and-left (isScalar c) (isKeyword cs) r, and-right (isScalar c) (isKeyword cs) r)
+    let k = both-true (isWord c) (isScalar c && isKeyword cs) h in
+    let l = both-true (isScalar c) (isKeyword cs) (k .1) in
+    (k .0, l .0, l .1)
 
 keyword-words : (t : List ℕ) → isKeyword t ≡ true → Words t
 keyword-words [] h = no-more
@@ -121,9 +115,6 @@ keyword-scalars (c ∷ cs) h = let k = keyword-parts c cs h in one-more (k .1) (
 
 keyword : (t : List ℕ) → (t ≡ [] → ⊥) → isKeyword t ≡ true → Word t
 keyword t s h = record { some = s; words = keyword-words t h; scalars = keyword-scalars t h }
-
-pub not-empty : {A : Type 0} {x : A} {xs : List A} → x ∷ xs ≡ [] → ⊥
-not-empty e = let z : _≡_ {A = ℕ} 0 1 = cc in omega arith
 
 -- ------------------------------------------------------------------ tokens in front of others
 

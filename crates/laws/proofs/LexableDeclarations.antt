@@ -12,12 +12,13 @@ use Rattle.tree.specs.Syntax.{Identifier, SpecializeKind, extend, specialize, E
 use Rattle.parser.specs.Members.{Member, declaration, dialects, externalProp, detectDelim}
 use Rattle.parser.specs.Limits.{levels}
 use Rattle.writer.specs.NormalText.{each, commas, mark, at, word, identifier, specializeWord, precTokens, fromTokens, expressionTokens, bodyTokens, ruleTokens, topRuleTokens, referenceTokens, tokenPrecTokens, tokenConflictTokens, literalTokens, namedNodeTokens, fallbackTokens, precItemTokens, conflictsTokens, externalSetTokens, declarationTokens, externalPropTokens}
+use Rattle.laws.proofs.Lists.{not-empty}
 use Rattle.laws.proofs.Fine.{U, Word}
 use Rattle.laws.proofs.Readable.{Every, every-none, every-more, GoodName, GoodProp}
 use Rattle.laws.proofs.MeetsExpressions.{Found, found-none, found-some, GoodRule}
 use Rattle.laws.proofs.Good.{Outer, GoodReference, GoodTokenPrec, GoodTokenConflict, GoodLiteral, GoodNode, GoodPrecItem, GoodSource, GoodExternalProp, GoodDeclaration, good-top, good-rule, good-tokens, good-local, good-context, good-external, good-specializer, good-prop-source, good-precedences, good-skip, good-scoped, GoodGrammar}
 use Rattle.laws.proofs.ReadBackGrammar.{memberTokens, members, dialectMembers, detectMembers}
-use Rattle.laws.proofs.Lexable.{Lexable, name-lexable, string-lexable, isSign, sign, isKeyword, not-empty, Keeps, one-keeps, more-keeps, then-keeps, none-keeps, word-keeps, at-keeps, each-keeps, commas-keep, bracketed-keeps, identifier-keeps, props-keep, item-keeps, readable-keeps}
+use Rattle.laws.proofs.Lexable.{Lexable, name-lexable, string-lexable, isSign, sign, isKeyword, Keeps, one-keeps, more-keeps, then-keeps, none-keeps, word-keeps, at-keeps, each-keeps, commas-keep, bracketed-keeps, identifier-keeps, props-keep, item-keeps, readable-keeps}
 
 outer-keeps : (e : Expression U) → Outer e → Keeps (expressionTokens e)
 outer-keeps e r = readable-keeps levels e r

@@ -74,3 +74,6 @@ module _ {A B A′ B′ : Type 0} (g : A → A′) (h : B → B′) (p : B → O
       go : (o : Option A) → orNot (onOption g o) (map g (picked p xs)) ≡ map g (orNot o (picked p xs))
       go none = refl
       go (some a) = refl
+
+pub not-empty : {A : Type 0} {x : A} {xs : List A} → x ∷ xs ≡ [] → ⊥
+not-empty e = let z : _≡_ {A = ℕ} 0 1 = cc in omega arith
