@@ -32,3 +32,5 @@ pub mod SameTokens
 pub mod TextBack
 pub mod Accepted
 pub mod Demand3
+pub mod Takes
+pub mod TakesExpressions
