@@ -34,3 +34,4 @@ pub mod Accepted
 pub mod Demand3
 pub mod Takes
 pub mod TakesExpressions
+pub mod TakesDeclarations

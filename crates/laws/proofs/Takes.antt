@@ -4,14 +4,13 @@ use Prim.Native.Nat.{ℕ, zero, suc, _+_, _-_, _≤_}
 use Prim.Native.Char.{Char}
 use Prim.Native.String.{String}
 use native.Mathlib.Omega.{arith}
-use mathlib.Core.Path.{_≡_, refl, ap, sym, _∙_}
+use mathlib.Core.Path.{_≡_, refl, sym, _∙_}
 use mathlib.Core.Bool.{Bool, true, false}
 use mathlib.Core.List.{List, [], _∷_, _++_}
 use mathlib.Core.Option.{Option, none, some}
 use Rattle.basics.specs.Basics.{if_then_else_, is}
 use Rattle.lexer.specs.Tokens.{Kind, Tokens, token, eof, bad}
-use Rattle.tree.specs.Syntax.{Identifier}
-use Rattle.parser.specs.Parser.{Answer, read, refused, Parser, andThen, _>>=_, _>>_, pure, refuse, choose, startOf, here, refuseHere, kindOf, kind, arrive, next, markIn, nameIn, atIn, stringIn, isEnd, isMark, says, eatIf, eat, eatName, eatAt, must, expect, expectName, taken, expectString, parseIdentifier, size, turns, loop, separate, untilStep, until, comma, commaOrNot, nothing}
+use Rattle.parser.specs.Parser.{Answer, read, refused, Parser, andThen, _>>=_, pure, refuse, choose, startOf, here, refuseHere, kindOf, kind, arrive, next, nameIn, atIn, stringIn, isEnd, isMark, says, eatIf, eat, eatName, eatAt, must, expect, expectName, taken, expectString, parseIdentifier, size, turns, loop, separate, untilStep, until, comma, commaOrNot, nothing}
 use Rattle.laws.specs.Bound.{turnsOr, Enough}
 use Rattle.laws.proofs.Lists.{clash}
 
@@ -24,6 +23,13 @@ module _ {S : Type 0} where
   -- if p answers a at ts, it takes at least k a tokens
   pub record Takes {A : Type 0} (p : Parser S A) (ts : Tokens S) (k : A → ℕ) : Type 0 where
     pub holds : Gone k (size ts) (p ts)
+
+  pub weaken : {A : Type 0} {p : Parser S A} {ts : Tokens S} {j k : A → ℕ} → Takes p ts j → ((a : A) → k a ≤ j a) → Takes p ts k
+  weaken {A = A} {p} {ts} {j} {k} h g = record { holds = go (p ts) (h .holds) }
+    where
+      go : (r : Answer S A) → Gone j (size ts) r → Gone k (size ts) r
+      go (read a us) i = let l = g a in omega arith
+      go (refused n p) i = tt
 
   then-takes : {A B : Type 0} (j : A → ℕ) (k : B → ℕ) (n : ℕ) (r : Answer S A) (f : A → Parser S B)
       → Gone j n r → ((a : A) (us : Tokens S) → Takes (f a) us (λ b. k b - j a)) → Gone k n (andThen r f)
@@ -40,6 +46,11 @@ module _ {S : Type 0} where
       → Takes p ts j → ((a : A) (us : Tokens S) → Takes (f a) us (λ b. k b - j a)) → Takes (p >>= f) ts k
   unfolding _>>=_
   bind-takes {j = j} {k} {p} {ts} f h g = record { holds = then-takes j k (size ts) (p ts) f (h .holds) g }
+
+  -- numbers that do not depend on the answer add up
+  pub sum-takes : {A B : Type 0} {j k : ℕ} {p : Parser S A} {ts : Tokens S} (f : A → Parser S B)
+      → Takes p ts (λ a. j) → ((a : A) (us : Tokens S) → Takes (f a) us (λ b. k)) → Takes (p >>= f) ts (λ b. k + j)
+  sum-takes {k = k} f h g = bind-takes f h λ a us. weaken (g a us) λ b. omega arith
 
   pub pure-takes : {A : Type 0} (a : A) (ts : Tokens S) {k : A → ℕ} → k a ≡ 0 → Takes (pure a) ts k
   unfolding pure
@@ -61,13 +72,6 @@ module _ {S : Type 0} where
   pub if-takes : {A : Type 0} (b : Bool) {p q : Parser S A} {ts : Tokens S} {k : A → ℕ} → Takes p ts k → Takes q ts k → Takes (if b then p else q) ts k
   if-takes true h g = h
   if-takes false h g = g
-
-  pub weaken : {A : Type 0} {p : Parser S A} {ts : Tokens S} {j k : A → ℕ} → Takes p ts j → ((a : A) → k a ≤ j a) → Takes p ts k
-  weaken {A = A} {p} {ts} {j} {k} h g = record { holds = go (p ts) (h .holds) }
-    where
-      go : (r : Answer S A) → Gone j (size ts) r → Gone k (size ts) r
-      go (read a us) i = let l = g a in omega arith
-      go (refused n p) i = tt
 
   -- what takes anything takes nothing at least
   pub any : {A : Type 0} {p : Parser S A} {ts : Tokens S} {j : A → ℕ} → Takes p ts j → Takes p ts (λ a. 0)

@@ -1,23 +1,22 @@
 -- No loop in the reading of props and expressions meets its bound, at any level: each turn takes a token, or is the first of a list of arguments.
 -- Assumes nothing.
-use Prim.Native.Nat.{ℕ, zero, suc, _+_, _-_, _≤_}
+use Prim.Native.Nat.{ℕ, zero, suc, _+_, _-_}
 use Prim.Native.Char.{Char}
 use native.Mathlib.Omega.{arith}
-use mathlib.Core.Path.{_≡_, refl, ap, sym, _∙_}
+use mathlib.Core.Path.{_≡_, refl}
 use mathlib.Core.Bool.{Bool, true, false, _&&_, _||_}
-use mathlib.Core.List.{List, [], _∷_, _++_}
+use mathlib.Core.List.{List, [], _∷_}
 use mathlib.Core.Option.{Option, none, some}
 use lib.Dec.{eqb}
 use lib.ListN.{length}
-use Rattle.basics.specs.Basics.{if_then_else_, letters, is, spells}
+use Rattle.basics.specs.Basics.{letters, is, spells}
 use Rattle.characters.specs.Spans.{Span}
 use Rattle.lexer.specs.Tokens.{Kind, Tokens}
-use Rattle.lexer.specs.Escapes.{decodeString}
 use Rattle.lexer.specs.Sets.{spans, fault}
 use Rattle.tree.specs.CharClasses.{fromName}
-use Rattle.tree.specs.Syntax.{Identifier, PropPart, Prop, ConflictMarkerKind, SpecializeKind, RepeatKind, CharClass, Expression, RuleDeclaration, TokenReference}
-use Rattle.parser.specs.Limits.{levels, repeats}
-use Rattle.parser.specs.Parser.{Parser, _>>=_, _>>_, pure, choose, here, startOf, kind, kindOf, next, markIn, nameIn, atIn, isEnd, isMark, endsSequence, eat, expect, parseIdentifier, loop, untilStep, until, comma}
+use Rattle.tree.specs.Syntax.{Identifier, PropPart, ConflictMarkerKind, SpecializeKind, RepeatKind, CharClass, Expression, RuleDeclaration, TokenReference}
+use Rattle.parser.specs.Limits.{repeats}
+use Rattle.parser.specs.Parser.{Parser, _>>=_, pure, choose, startOf, kindOf, markIn, nameIn, atIn, isEnd, isMark, endsSequence, eat, parseIdentifier, untilStep, comma}
 use Rattle.parser.specs.Expressions.{repeatMark, markerMark, Item, partBy, parsePart, propNamed, propBy, parseProp, parseProps, classBy, stdClassBy, setBy, parseSetExpression, referenceOf, contentBy, inlineBy, stacked, repeatBy, parseRepeat, firstEmptyArm, choiceBy, choiceOf, parseBracedExpression, parseRuleNamed, parseInlineRuleExpression, parseSpecializeExpression, parseParenthesizedExpression, parseArguments, parseNamed, innerBy, parseExpressionInner, parseExpressionSuffix, itemBy, parseItem, parseExpressionSequence, parseArm, parseExpressionChoice, choiceAt}
 use Rattle.laws.specs.Bound.{Enough}
 use Rattle.laws.proofs.Takes.{Takes, bind-takes, pure-takes, refuse-takes, refuseHere-takes, choose-takes, if-takes, any, here-takes, kind-takes, There, next-takes, next-any, name-there, at-there, eat-takes, expect-takes, parseIdentifier-takes, comma-takes, oneIf, oneFound, oneAfter, found, loop-takes, loop-enough, spaced-takes, spaced-enough}
