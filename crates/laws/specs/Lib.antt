@@ -1,2 +1,3 @@
 pub mod Starts
 pub mod Demand3
+pub mod Bound
