@@ -32,10 +32,7 @@ pub mod SameTokens
 pub mod TextBack
 pub mod Accepted
 pub mod Demand3
-<<<<<<< HEAD
 pub mod Calls
-=======
 pub mod Takes
 pub mod TakesExpressions
 pub mod TakesDeclarations
->>>>>>> bdb3a9a08b6a7fdeb63f32d980d17e0672d96b31
