@@ -3,3 +3,4 @@ pub mod Parser
 pub mod Expressions
 pub mod Members
 pub mod Declarations
+pub mod Promise

@@ -1,1 +1,115 @@
-// From tokens to the stored tree.
+// From the tokens of a text to the records of its tree.
+use error::Cause;
+use lexer::Kind;
+use lexer::Lexed;
+ghost use mathlib.Core.Path.{_≡_};
+ghost use Rattle.error.specs.Promise.{causeNumber};
+ghost use Rattle.lexer.specs.Promise.{tokensAt, number};
+ghost use Rattle.parser.specs.Parser.{arrive as arriveD, next as nextD};
+ghost use Rattle.parser.specs.Promise.{stream, startIn, endIn, codeIn, markOf, arrival, Lies, Eats, Expects};
+
+// The current token, with its start and end, or the end of the text. A token that the lexer refuses is never current: to
+// advance onto it is refused.
+pub enum Current {
+    Token(Kind, usize, usize),
+    End(usize),
+}
+
+pub enum Arrived {
+    At(Current),
+    Refused(Cause, usize),
+}
+
+// Whether a token was taken, and then the next.
+pub enum Eaten {
+    Yes(Current),
+    No,
+    Refused(Cause, usize),
+}
+
+fn cause(c: lexer::Cause) -> Cause
+    ensures { λ r. ⌜ causeNumber r ≡ number c ⌝ }
+{
+    match c {
+        lexer::Cause::UnexpectedCharacter => Cause::UnexpectedCharacter,
+        lexer::Cause::UnterminatedString => Cause::UnterminatedString,
+        lexer::Cause::AtWithoutName => Cause::AtWithoutName,
+        lexer::Cause::UnterminatedSet => Cause::UnterminatedSet,
+    }
+}
+
+// The first token from a place on.
+pub fn arrive(source: &[u8], from: usize) -> Arrived
+    ensures { λ r. ⌜ (arriveD (tokensAt (now (source .entry)) from) ≡ arrival (now (source .entry)) r) × Lies (now (source .entry)) from r ⌝ }
+{
+    match lexer::next(source, from) {
+        Lexed::Token(kind, start, end) => Arrived::At(Current::Token(kind, start, end)),
+        Lexed::Eof(at) => Arrived::At(Current::End(at)),
+        Lexed::Refused(c, at) => Arrived::Refused(cause(c), at),
+    }
+}
+
+// The token after the current one; at the end, the end.
+pub fn next(source: &[u8], token: Current) -> Arrived
+    ensures { λ r. ⌜ (nextD (stream (now (source .entry)) token) ≡ arrival (now (source .entry)) r) × Lies (now (source .entry)) (endIn token) r ⌝ }
+{
+    match token {
+        Current::Token(_, _, end) => arrive(source, end),
+        Current::End(at) => Arrived::At(Current::End(at)),
+    }
+}
+
+pub fn start(token: Current) -> usize
+    ensures { λ r. ⌜ r ≡ startIn token ⌝ }
+{
+    match token {
+        Current::Token(_, start, _) => start,
+        Current::End(at) => at,
+    }
+}
+
+// The code of a mark, or 0.
+fn mark_code(kind: Kind) -> u32
+    ensures { λ r. ⌜ r ≡ codeIn kind ⌝ }
+{
+    match kind {
+        Kind::Punctuation(c) => c,
+        Kind::String(_, _, _) => 0,
+        Kind::At(_, _) => 0,
+        Kind::Set(_, _, _) => 0,
+        Kind::Identifier(_, _) => 0,
+    }
+}
+
+pub fn mark(token: Current) -> u32
+    ensures { λ r. ⌜ r ≡ markOf token ⌝ }
+{
+    match token {
+        Current::Token(kind, _, _) => mark_code(kind),
+        Current::End(_) => 0,
+    }
+}
+
+// The current token is taken if it is this mark.
+pub fn eat_punctuation(source: &[u8], token: Current, c: u32) -> Eaten
+    ensures { λ r. ⌜ Eats (now (source .entry)) token c r ⌝ }
+{
+    if mark(token) != c {
+        return Eaten::No;
+    }
+    match next(source, token) {
+        Arrived::At(t) => Eaten::Yes(t),
+        Arrived::Refused(cause, at) => Eaten::Refused(cause, at),
+    }
+}
+
+// It must be this mark.
+pub fn expect_punctuation(source: &[u8], token: Current, c: u32) -> Arrived
+    ensures { λ r. ⌜ Expects (now (source .entry)) token c r ⌝ }
+{
+    match eat_punctuation(source, token, c) {
+        Eaten::Yes(t) => Arrived::At(t),
+        Eaten::No => Arrived::Refused(Cause::UnexpectedToken, start(token)),
+        Eaten::Refused(cause, at) => Arrived::Refused(cause, at),
+    }
+}

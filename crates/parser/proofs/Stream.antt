@@ -1,0 +1,104 @@
+-- One step along the tokens of a text.
+-- Assumes nothing.
+use Prim.Native.Nat.{ℕ, _≤_, _<_}
+use Prim.Native.Char.{Char, code}
+use lib.Dec.{eqb}
+use borrow.Author.Tests.{eq-eqb, ne-eqb}
+use Rattle.basics.specs.Basics.{is}
+use mathlib.Core.Path.{_≡_, refl, ap, sym, _∙_}
+use mathlib.Core.Bool.{Bool, true, false}
+use mathlib.Core.List.{List}
+use mathlib.Core.Option.{Option, none, some}
+use Rattle.lexer.specs.declared.Kind.{Kind}
+use Rattle.lexer.specs.declared.Kind.the-variants.{String, Set, Punctuation, Identifier}
+use Rattle.lexer.specs.declared.Kind.the-variants as K
+use Rattle.error.specs.declared.Cause.{Cause}
+use Rattle.error.specs.declared.Cause.the-variants.{UnexpectedToken}
+use Rattle.error.specs.Promise.{causeNumber}
+use Rattle.lexer.specs.declared.Cause as LexerCause
+use Rattle.lexer.specs.declared.Lexed.{Lexed}
+use Rattle.lexer.specs.declared.Lexed.the-variants as L
+use Rattle.lexer.specs.Promise.{tokensAt, number, answer, Placed, Reads}
+use Rattle.parser.specs.Parser.{Answer, read, refused, andThen, _>>=_, pure, startOf, kindOf, kind, markIn, refuseHere, arrive, next, eatIf, eat, must, expect}
+use Rattle.parser.specs.declared.Current.{Current}
+use Rattle.parser.specs.declared.Current.the-variants.{Token, End}
+use Rattle.parser.specs.declared.Arrived.{Arrived}
+use Rattle.parser.specs.declared.Arrived.the-variants.{At, Refused}
+use Rattle.parser.specs.Promise.{stream, startIn, endIn, codeIn, markOf, arrival, LiesIn, Lies, eaten, Eats, Expects}
+use Rattle.parser.specs.declared.Eaten.{Eaten}
+use Rattle.parser.specs.declared.Eaten.the-variants as E
+
+-- what the lexer's answer is for the parser, by its variant
+module _ (s : List ℕ) (from : ℕ) (l : Lexed) (r : Reads s from l) where
+  pub arrived-token : {k : Kind} {start end : ℕ} → l ≡ L.Token k start end
+      → (arrive (tokensAt s from) ≡ arrival s (At (Token k start end))) × LiesIn s from (Token k start end)
+  unfolding arrive stream
+  arrived-token {k} {start} {end} e = let h : Reads s from (L.Token k start end) = rw e at r in (ap arrive (h .tokens), h .placed)
+
+  pub arrived-end : {p : ℕ} → l ≡ L.Eof p → (arrive (tokensAt s from) ≡ arrival s (At (End p))) × Unit {0}
+  unfolding arrive stream
+  arrived-end {p} e = let h : Reads s from (L.Eof p) = rw e at r in (ap arrive (h .tokens), tt)
+
+  pub arrived-refused : {c : LexerCause.Cause} {p : ℕ} (d : Cause) → l ≡ L.Refused c p → causeNumber d ≡ number c
+      → (arrive (tokensAt s from) ≡ arrival s (Refused d p)) × Unit {0}
+  unfolding arrive
+  arrived-refused {c} {p} d e q = let h : Reads s from (L.Refused c p) = rw e at r in (rw q (ap arrive (h .tokens)), tt)
+
+-- ------------------------------------------------------------------ the current token
+
+module _ (s : List ℕ) where
+  pub start-of : (t : Current) → startOf (stream s t) ≡ startIn t
+  unfolding startOf stream
+  start-of (Token k start end) = refl
+  start-of (End p) = refl
+
+  pub mark-of : (t : Current) → markIn (kindOf (stream s t)) ≡ markOf t
+  unfolding kindOf stream
+  mark-of (Token (String q a e) start end) = refl
+  mark-of (Token (K.At a e) start end) = refl
+  mark-of (Token (Set i a e) start end) = refl
+  mark-of (Token (Punctuation c) start end) = refl
+  mark-of (Token (Identifier a e) start end) = refl
+  mark-of (End p) = refl
+
+  -- after a token comes what the lexer gives from its end on
+  pub next-token : (t : Current) (k : Kind) (start end : ℕ) (r : Arrived) → t ≡ Token k start end → (arrive (tokensAt s end) ≡ arrival s r) × Lies s end r
+      → (next (stream s t) ≡ arrival s r) × Lies s (endIn t) r
+  unfolding next stream
+  next-token t k start end r e h = rw e h
+
+  pub next-end : (t : Current) (p : ℕ) → t ≡ End p → (next (stream s t) ≡ arrival s (At (End p))) × Unit {0}
+  unfolding next stream
+  next-end t p e = rw e (refl, tt)
+
+  -- ------------------------------------------------------------------ taking a mark
+
+  module _ (t : Current) (c : ℕ) where
+    pub eat-no : (markOf t ≡ c → ⊥) → Eats s t c E.No
+    unfolding eat _>>=_ andThen kind eatIf pure
+    eat-no f = record { eats = λ m e. rw (mark-of t, e, ne-eqb (markOf t) c f); lies = tt }
+
+    pub eat-yes : markOf t ≡ c → (r : Arrived) → (next (stream s t) ≡ arrival s r) × Lies s (endIn t) r → {u : Current} → r ≡ At u → Eats s t c (E.Yes u)
+    unfolding eat _>>=_ andThen kind eatIf pure
+    eat-yes q r h {u} e =
+        let k : (next (stream s t) ≡ arrival s (At u)) × Lies s (endIn t) (At u) = rw e at h in
+        record { eats = λ m f. rw (mark-of t, f, eq-eqb (markOf t) c q, eatIf, k .0); lies = k .1 }
+
+    pub eat-refused : markOf t ≡ c → (r : Arrived) → (next (stream s t) ≡ arrival s r) × Lies s (endIn t) r → {d : Cause} {p : ℕ} → r ≡ Refused d p → Eats s t c (E.Refused d p)
+    unfolding eat _>>=_ andThen kind eatIf pure
+    eat-refused q r h {d} {p} e =
+        let k : (next (stream s t) ≡ arrival s (Refused d p)) × Lies s (endIn t) (Refused d p) = rw e at h in
+        record { eats = λ m f. rw (mark-of t, f, eq-eqb (markOf t) c q, eatIf, k .0); lies = tt }
+
+    module _ (r : Eaten) (h : Eats s t c r) where
+      pub expect-yes : {u : Current} → r ≡ E.Yes u → Expects s t c (At u)
+      unfolding expect _>>=_ andThen must pure
+      expect-yes {u} e = let k : Eats s t c (E.Yes u) = rw e at h in record { expects = λ m f. rw (k .eats m f); lies = k .lies }
+
+      pub expect-no : {p : ℕ} → r ≡ E.No → p ≡ startIn t → Expects s t c (Refused UnexpectedToken p)
+      unfolding expect _>>=_ andThen must refuseHere
+      expect-no {p} e q = let k : Eats s t c E.No = rw e at h in record { expects = λ m f. rw (k .eats m f, must, start-of t, q); lies = tt }
+
+      pub expect-refused : {d : Cause} {p : ℕ} → r ≡ E.Refused d p → Expects s t c (Refused d p)
+      unfolding expect _>>=_ andThen
+      expect-refused {d} {p} e = let k : Eats s t c (E.Refused d p) = rw e at h in record { expects = λ m f. rw (k .eats m f); lies = tt }

@@ -1,0 +1,83 @@
+-- What the values of the code stand for.
+-- Assumes nothing.
+use Prim.Native.Nat.{ℕ, _≤_, _<_}
+use Prim.Native.Char.{Char, code}
+use mathlib.Core.Path.{_≡_}
+use mathlib.Core.Bool.{Bool, true, false}
+use mathlib.Core.List.{List}
+use mathlib.Core.Option.{Option, none, some}
+use lib.ListN.{length}
+use Rattle.lexer.specs.declared.Kind.{Kind}
+use Rattle.lexer.specs.declared.Kind.the-variants.{String, Set, Punctuation, Identifier}
+use Rattle.lexer.specs.declared.Kind.the-variants as K
+use Rattle.error.specs.declared.Cause.{Cause}
+use Rattle.error.specs.Promise.{causeNumber}
+use Rattle.lexer.specs.Tokens as T
+use Rattle.lexer.specs.Tokens.{Tokens}
+use Rattle.lexer.specs.Promise.{tokensAt, kindOf as kindIn, Parted}
+use Rattle.parser.specs.Parser.{Answer, read, refused, eat, expect}
+use Rattle.parser.specs.declared.Current.{Current}
+use Rattle.parser.specs.declared.Current.the-variants.{Token, End}
+use Rattle.parser.specs.declared.Arrived.{Arrived}
+use Rattle.parser.specs.declared.Arrived.the-variants.{At, Refused}
+use Rattle.parser.specs.declared.Eaten.{Eaten}
+use Rattle.parser.specs.declared.Eaten.the-variants as E
+
+-- the tokens from the current one on
+unfoldable pub stream : List ℕ → Current → Tokens ℕ
+stream s (Token k start end) = T.token (kindIn s k) start (tokensAt s end)
+stream s (End p) = T.eof p
+
+-- its start, its end, and the code of its mark, or 0
+abbrev pub startIn : Current → ℕ
+startIn (Token k start end) = start
+startIn (End p) = p
+
+abbrev pub endIn : Current → ℕ
+endIn (Token k start end) = end
+endIn (End p) = p
+
+abbrev pub codeIn : Kind → ℕ
+codeIn (Punctuation c) = c
+codeIn (String q a e) = 0
+codeIn (K.At a e) = 0
+codeIn (Set i a e) = 0
+codeIn (Identifier a e) = 0
+
+abbrev pub markOf : Current → ℕ
+markOf (Token k start end) = codeIn k
+markOf (End p) = 0
+
+-- a token is arrived at, or it is refused
+abbrev pub arrival : List ℕ → Arrived → Answer ℕ (Unit {0})
+arrival s (At t) = read tt (stream s t)
+arrival s (Refused c p) = refused (causeNumber c) p
+
+-- the current token lies in the text, from a place on
+abbrev pub LiesIn : List ℕ → ℕ → Current → Type 0
+LiesIn s from (Token k start end) = (from ≤ start) × (start < end) × (end ≤ length s) × Parted s start k
+LiesIn s from (End p) = Unit {0}
+
+abbrev pub Lies : List ℕ → ℕ → Arrived → Type 0
+Lies s from (At t) = LiesIn s from t
+Lies s from (Refused c p) = Unit {0}
+
+-- whether a token is taken
+abbrev pub eaten : List ℕ → Current → Eaten → Answer ℕ Bool
+eaten s t (E.Yes u) = read true (stream s u)
+eaten s t E.No = read false (stream s t)
+eaten s t (E.Refused c p) = refused (causeNumber c) p
+
+abbrev pub EatenLies : List ℕ → ℕ → Eaten → Type 0
+EatenLies s from (E.Yes u) = LiesIn s from u
+EatenLies s from E.No = Unit {0}
+EatenLies s from (E.Refused c p) = Unit {0}
+
+-- the mark with the code c is taken if it is the current token
+pub record Eats (s : List ℕ) (t : Current) (c : ℕ) (r : Eaten) : Type 0 where
+  pub eats : (m : Char) → code m ≡ c → eat m (stream s t) ≡ eaten s t r
+  pub lies : EatenLies s (endIn t) r
+
+pub record Expects (s : List ℕ) (t : Current) (c : ℕ) (r : Arrived) : Type 0 where
+  pub expects : (m : Char) → code m ≡ c → expect m (stream s t) ≡ arrival s r
+  pub lies : Lies s (endIn t) r
