@@ -4,7 +4,10 @@ use Prim.Native.Nat.{ℕ, _≤_, _<_}
 use Prim.Native.Char.{Char, code}
 use lib.Dec.{eqb}
 use borrow.Author.Tests.{eq-eqb, ne-eqb}
-use Rattle.basics.specs.Basics.{is}
+use lib.ListN.{length}
+use Rattle.basics.specs.Basics.{is, same, letters}
+use Rattle.characters.specs.Places.{cut}
+use Rattle.lexer.proofs.Spelled.{spells-codes}
 use mathlib.Core.Path.{_≡_, refl, ap, sym, _∙_}
 use mathlib.Core.Bool.{Bool, true, false}
 use mathlib.Core.List.{List}
@@ -19,12 +22,14 @@ use Rattle.lexer.specs.declared.Cause as LexerCause
 use Rattle.lexer.specs.declared.Lexed.{Lexed}
 use Rattle.lexer.specs.declared.Lexed.the-variants as L
 use Rattle.lexer.specs.Promise.{tokensAt, number, answer, Placed, Reads}
-use Rattle.parser.specs.Parser.{Answer, read, refused, andThen, _>>=_, pure, startOf, kindOf, kind, markIn, refuseHere, arrive, next, eatIf, eat, must, expect}
+use Rattle.parser.specs.Parser.{Answer, read, refused, andThen, _>>=_, pure, startOf, kindOf, kind, markIn, nameIn, atIn, refuseHere, arrive, next, eatIf, eat, must, expect}
 use Rattle.parser.specs.declared.Current.{Current}
 use Rattle.parser.specs.declared.Current.the-variants.{Token, End}
 use Rattle.parser.specs.declared.Arrived.{Arrived}
 use Rattle.parser.specs.declared.Arrived.the-variants.{At, Refused}
-use Rattle.parser.specs.Promise.{stream, startIn, endIn, codeIn, markOf, arrival, LiesIn, Lies, eaten, Eats, Expects}
+use Rattle.parser.specs.Promise.{stream, startIn, endIn, codeIn, markOf, arrival, LiesIn, Lies, eaten, Eats, Expects, nameOf, atOf, textIn, Whole, Says}
+use Rattle.parser.specs.declared.Part.{Part}
+use Rattle.parser.specs.declared.Part.the-variants.{From, Nothing}
 use Rattle.parser.specs.declared.Eaten.{Eaten}
 use Rattle.parser.specs.declared.Eaten.the-variants as E
 
@@ -102,3 +107,51 @@ module _ (s : List ℕ) where
       pub expect-refused : {d : Cause} {p : ℕ} → r ≡ E.Refused d p → Expects s t c (Refused d p)
       unfolding expect _>>=_ andThen
       expect-refused {d} {p} e = let k : Eats s t c (E.Refused d p) = rw e at h in record { expects = λ m f. rw (k .eats m f); lies = tt }
+
+  -- ------------------------------------------------------------------ names
+
+  pub name-of : (t : Current) → nameIn (kindOf (stream s t)) ≡ textIn s (nameOf t)
+  unfolding kindOf stream
+  name-of (Token (String q a e) start end) = refl
+  name-of (Token (K.At a e) start end) = refl
+  name-of (Token (Set i a e) start end) = refl
+  name-of (Token (Punctuation c) start end) = refl
+  name-of (Token (Identifier a e) start end) = refl
+  name-of (End p) = refl
+
+  pub at-of : (t : Current) → atIn (kindOf (stream s t)) ≡ textIn s (atOf t)
+  unfolding kindOf stream
+  at-of (Token (String q a e) start end) = refl
+  at-of (Token (K.At a e) start end) = refl
+  at-of (Token (Set i a e) start end) = refl
+  at-of (Token (Punctuation c) start end) = refl
+  at-of (Token (Identifier a e) start end) = refl
+  at-of (End p) = refl
+
+  -- the parts of a token are whole
+  pub name-whole : (t : Current) (from : ℕ) → LiesIn s from t → Whole s (nameOf t)
+  name-whole (Token (String q a e) start end) from h = tt
+  name-whole (Token (K.At a e) start end) from h = tt
+  name-whole (Token (Set i a e) start end) from h = tt
+  name-whole (Token (Punctuation c) start end) from h = tt
+  name-whole (Token (Identifier a e) start end) from h = h .3
+  name-whole (End p) from h = tt
+
+  pub at-whole : (t : Current) (from : ℕ) → LiesIn s from t → Whole s (atOf t)
+  at-whole (Token (String q a e) start end) from h = tt
+  at-whole (Token (K.At a e) start end) from h = h .3
+  at-whole (Token (Set i a e) start end) from h = tt
+  at-whole (Token (Punctuation c) start end) from h = tt
+  at-whole (Token (Identifier a e) start end) from h = tt
+  at-whole (End p) from h = tt
+
+  pub part-lies : {part : Part} {a e : ℕ} → Whole s part → part ≡ From a e → (a ≤ e) × (e ≤ length s)
+  part-lies {a = a} {e} h q = let k : Whole s (From a e) = rw q at h in (k .forth, k .inside)
+
+  pub says-part : (word : List ℕ) {part : Part} {a e : ℕ} {r : Bool} → Whole s part → part ≡ From a e → r ≡ same word (cut s a e) → Says s part word r
+  says-part word {part} {a} {e} {r} h q t =
+      let k : Whole s (From a e) = rw q at h in
+      record { said = λ w l p. rw (q, l, t) (sym (spells-codes word (cut s a e) p (k .bytes))) }
+
+  pub says-nothing : (word : List ℕ) {part : Part} → part ≡ Nothing → Says s part word false
+  says-nothing word q = record { said = λ w l p. rw q }
