@@ -19,7 +19,7 @@ use Rattle.lexer.specs.Tokens as T
 use Rattle.lexer.specs.Tokens.{Tokens}
 use Rattle.lexer.specs.Promise.{tokensAt, partOf, kindOf as kindIn, Parted}
 use Rattle.lexer.specs.Promise as L
-use Rattle.parser.specs.Parser.{Answer, read, refused, says, eat, expect}
+use Rattle.parser.specs.Parser.{Answer, read, refused, says, eatIf, eat, eatName, eatAt, expect}
 use Rattle.parser.specs.declared.Current.{Current}
 use Rattle.parser.specs.declared.Current.the-variants.{Token, End}
 use Rattle.parser.specs.declared.Arrived.{Arrived}
@@ -79,6 +79,11 @@ EatenLies s from (E.Yes u) = LiesIn s from u
 EatenLies s from E.No = Unit {0}
 EatenLies s from (E.Refused c p) = Unit {0}
 
+-- the current token is taken if a test says so
+pub record EatsIf (s : List ℕ) (t : Current) (b : Bool) (r : Eaten) : Type 0 where
+  pub eats : eatIf b (stream s t) ≡ eaten s t r
+  pub lies : EatenLies s (endIn t) r
+
 -- the mark with the code c is taken if it is the current token
 pub record Eats (s : List ℕ) (t : Current) (c : ℕ) (r : Eaten) : Type 0 where
   pub eats : (m : Char) → code m ≡ c → eat m (stream s t) ≡ eaten s t r
@@ -130,3 +135,12 @@ isPlain w = every (λ c. ltb c 0x80) w
 -- whether there is a part, and it is this word
 pub record Says (s : List ℕ) (part : Part) (word : List ℕ) (r : Bool) : Type 0 where
   pub said : (w : Quoted) → letters w ≡ word → isPlain word ≡ true → says w (textIn s part) ≡ r
+
+-- the name, or the word after an `@`, is taken if it is the current token
+pub record EatsName (s : List ℕ) (t : Current) (word : List ℕ) (r : Eaten) : Type 0 where
+  pub eats : (w : Quoted) → letters w ≡ word → isPlain word ≡ true → eatName w (stream s t) ≡ eaten s t r
+  pub lies : EatenLies s (endIn t) r
+
+pub record EatsAt (s : List ℕ) (t : Current) (word : List ℕ) (r : Eaten) : Type 0 where
+  pub eats : (w : Quoted) → letters w ≡ word → isPlain word ≡ true → eatAt w (stream s t) ≡ eaten s t r
+  pub lies : EatenLies s (endIn t) r

@@ -6,7 +6,7 @@ ghost use mathlib.Core.Path.{_≡_};
 ghost use Rattle.error.specs.Promise.{causeNumber};
 ghost use Rattle.lexer.specs.Promise.{tokensAt, number};
 ghost use Rattle.parser.specs.Parser.{arrive as arriveD, next as nextD};
-ghost use Rattle.parser.specs.Promise.{stream, startIn, endIn, codeIn, markOf, arrival, Lies, Eats, Expects, namePart, atPart, nameOf, atOf, Whole, Says};
+ghost use Rattle.parser.specs.Promise.{stream, startIn, endIn, codeIn, markOf, arrival, Lies, Eats, Expects, namePart, atPart, nameOf, atOf, Whole, Says, EatsIf, EatsName, EatsAt};
 
 // The current token, with its start and end, or the end of the text. A token that the lexer refuses is never current: to
 // advance onto it is refused.
@@ -96,17 +96,24 @@ pub fn mark(token: Current) -> u32
     }
 }
 
-// The current token is taken if it is this mark.
-pub fn eat_punctuation(source: &[u8], token: Current, c: u32) -> Eaten
-    ensures { λ r. ⌜ Eats (now (source .entry)) token c r ⌝ }
+// The current token is taken if a test says so.
+fn eat_if(source: &[u8], token: Current, test: bool) -> Eaten
+    ensures { λ r. ⌜ EatsIf (now (source .entry)) token test r ⌝ }
 {
-    if mark(token) != c {
+    if !test {
         return Eaten::No;
     }
     match next(source, token) {
         Arrived::At(t) => Eaten::Yes(t),
         Arrived::Refused(cause, at) => Eaten::Refused(cause, at),
     }
+}
+
+// The current token is taken if it is this mark.
+pub fn eat_punctuation(source: &[u8], token: Current, c: u32) -> Eaten
+    ensures { λ r. ⌜ Eats (now (source .entry)) token c r ⌝ }
+{
+    eat_if(source, token, mark(token) == c)
 }
 
 // It must be this mark.
@@ -175,4 +182,20 @@ pub fn says(source: &[u8], part: Part, word: &[u8]) -> bool
         Part::From(a, e) => lexer::words::spells(&source[a..e], word),
         Part::Nothing => false,
     }
+}
+
+// The current token is taken if it is this name.
+pub fn eat_identifier_value(source: &[u8], token: Current, word: &[u8]) -> Eaten
+    requires { ⌜ Whole (now source) (nameOf token) ⌝ }
+    ensures { λ r. ⌜ EatsName (now (source .entry)) token (now (word .entry)) r ⌝ }
+{
+    eat_if(source, token, says(source, name(token), word))
+}
+
+// The current token is taken if it is `@` and this word.
+pub fn eat_at(source: &[u8], token: Current, word: &[u8]) -> Eaten
+    requires { ⌜ Whole (now source) (atOf token) ⌝ }
+    ensures { λ r. ⌜ EatsAt (now (source .entry)) token (now (word .entry)) r ⌝ }
+{
+    eat_if(source, token, says(source, at(token), word))
 }
