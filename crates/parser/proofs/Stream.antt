@@ -4,9 +4,12 @@ use Prim.Native.Nat.{ℕ, _≤_, _<_}
 use Prim.Native.Char.{Char, code}
 use lib.Dec.{eqb}
 use borrow.Author.Tests.{eq-eqb, ne-eqb}
-use Rattle.basics.specs.Basics.{is}
+use lib.ListN.{length}
+use Rattle.basics.specs.Basics.{is, same, letters}
+use Rattle.characters.specs.Places.{cut}
+use Rattle.lexer.proofs.Spelled.{spells-codes}
 use mathlib.Core.Path.{_≡_, refl, ap, sym, _∙_}
-use mathlib.Core.Bool.{Bool, true, false}
+use mathlib.Core.Bool.{Bool, true, false, not}
 use mathlib.Core.List.{List}
 use mathlib.Core.Option.{Option, none, some}
 use Rattle.lexer.specs.declared.Kind.{Kind}
@@ -19,14 +22,24 @@ use Rattle.lexer.specs.declared.Cause as LexerCause
 use Rattle.lexer.specs.declared.Lexed.{Lexed}
 use Rattle.lexer.specs.declared.Lexed.the-variants as L
 use Rattle.lexer.specs.Promise.{tokensAt, number, answer, Placed, Reads}
-use Rattle.parser.specs.Parser.{Answer, read, refused, andThen, _>>=_, pure, startOf, kindOf, kind, markIn, refuseHere, arrive, next, eatIf, eat, must, expect}
+use Rattle.parser.specs.Parser.{Answer, read, refused, andThen, _>>=_, pure, startOf, kindOf, kind, markIn, nameIn, atIn, refuseHere, arrive, next, eatIf, eat, eatName, eatAt, must, expect}
 use Rattle.parser.specs.declared.Current.{Current}
 use Rattle.parser.specs.declared.Current.the-variants.{Token, End}
 use Rattle.parser.specs.declared.Arrived.{Arrived}
 use Rattle.parser.specs.declared.Arrived.the-variants.{At, Refused}
-use Rattle.parser.specs.Promise.{stream, startIn, endIn, codeIn, markOf, arrival, LiesIn, Lies, eaten, Eats, Expects}
+use Rattle.parser.specs.Promise.{stream, startIn, endIn, codeIn, markOf, arrival, LiesIn, Lies, eaten, EatsIf, Eats, EatsName, EatsAt, Expects, nameOf, atOf, textIn, Whole, Says}
+use Rattle.parser.specs.declared.Part.{Part}
+use Rattle.parser.specs.declared.Part.the-variants.{From, Nothing}
 use Rattle.parser.specs.declared.Eaten.{Eaten}
 use Rattle.parser.specs.declared.Eaten.the-variants as E
+
+not-true : (b : Bool) → not b ≡ true → b ≡ false
+not-true true e = sym e
+not-true false e = refl
+
+not-false : (b : Bool) → not b ≡ false → b ≡ true
+not-false true e = refl
+not-false false e = sym e
 
 -- what the lexer's answer is for the parser, by its variant
 module _ (s : List ℕ) (from : ℕ) (l : Lexed) (r : Reads s from l) where
@@ -71,25 +84,84 @@ module _ (s : List ℕ) where
   unfolding next stream
   next-end t p e = rw e (refl, tt)
 
-  -- ------------------------------------------------------------------ taking a mark
+  -- ------------------------------------------------------------------ names
+
+  pub name-of : (t : Current) → nameIn (kindOf (stream s t)) ≡ textIn s (nameOf t)
+  unfolding kindOf stream
+  name-of (Token (String q a e) start end) = refl
+  name-of (Token (K.At a e) start end) = refl
+  name-of (Token (Set i a e) start end) = refl
+  name-of (Token (Punctuation c) start end) = refl
+  name-of (Token (Identifier a e) start end) = refl
+  name-of (End p) = refl
+
+  pub at-of : (t : Current) → atIn (kindOf (stream s t)) ≡ textIn s (atOf t)
+  unfolding kindOf stream
+  at-of (Token (String q a e) start end) = refl
+  at-of (Token (K.At a e) start end) = refl
+  at-of (Token (Set i a e) start end) = refl
+  at-of (Token (Punctuation c) start end) = refl
+  at-of (Token (Identifier a e) start end) = refl
+  at-of (End p) = refl
+
+  -- the parts of a token are whole
+  pub name-whole : (t : Current) (from : ℕ) → LiesIn s from t → Whole s (nameOf t)
+  name-whole (Token (String q a e) start end) from h = tt
+  name-whole (Token (K.At a e) start end) from h = tt
+  name-whole (Token (Set i a e) start end) from h = tt
+  name-whole (Token (Punctuation c) start end) from h = tt
+  name-whole (Token (Identifier a e) start end) from h = h .3
+  name-whole (End p) from h = tt
+
+  pub at-whole : (t : Current) (from : ℕ) → LiesIn s from t → Whole s (atOf t)
+  at-whole (Token (String q a e) start end) from h = tt
+  at-whole (Token (K.At a e) start end) from h = h .3
+  at-whole (Token (Set i a e) start end) from h = tt
+  at-whole (Token (Punctuation c) start end) from h = tt
+  at-whole (Token (Identifier a e) start end) from h = tt
+  at-whole (End p) from h = tt
+
+  pub part-lies : {part : Part} {a e : ℕ} → Whole s part → part ≡ From a e → (a ≤ e) × (e ≤ length s)
+  part-lies {a = a} {e} h q = let k : Whole s (From a e) = rw q at h in (k .forth, k .inside)
+
+  pub says-part : (word : List ℕ) {part : Part} {a e : ℕ} {r : Bool} → Whole s part → part ≡ From a e → r ≡ same word (cut s a e) → Says s part word r
+  says-part word {part} {a} {e} {r} h q t =
+      let k : Whole s (From a e) = rw q at h in
+      record { said = λ w l p. rw (q, l, t) (sym (spells-codes word (cut s a e) p (k .bytes))) }
+
+  pub says-nothing : (word : List ℕ) {part : Part} → part ≡ Nothing → Says s part word false
+  says-nothing word q = record { said = λ w l p. rw q }
+
+  -- ------------------------------------------------------------------ taking a token
+
+  module _ (t : Current) where
+    pub eat-no : {b : Bool} → not b ≡ true → EatsIf s t b E.No
+    unfolding eatIf pure
+    eat-no {b} e = record { eats = rw (not-true b e); lies = tt }
+
+    module _ {b : Bool} (e : not b ≡ false) (r : Arrived) (h : (next (stream s t) ≡ arrival s r) × Lies s (endIn t) r) where
+      pub eat-yes : {u : Current} → r ≡ At u → EatsIf s t b (E.Yes u)
+      unfolding eatIf _>>=_ andThen pure
+      eat-yes {u} q = let k : (next (stream s t) ≡ arrival s (At u)) × Lies s (endIn t) (At u) = rw q at h in record { eats = rw (not-false b e, eatIf, k .0); lies = k .1 }
+
+      pub eat-refused : {d : Cause} {p : ℕ} → r ≡ Refused d p → EatsIf s t b (E.Refused d p)
+      unfolding eatIf _>>=_ andThen
+      eat-refused {d} {p} q =
+          let k : (next (stream s t) ≡ arrival s (Refused d p)) × Lies s (endIn t) (Refused d p) = rw q at h in record { eats = rw (not-false b e, eatIf, k .0); lies = tt }
+
+    pub eat-mark : {c n : ℕ} {r : Eaten} → n ≡ markOf t → EatsIf s t (eqb n c) r → Eats s t c r
+    unfolding eat _>>=_ andThen kind
+    eat-mark e h = record { eats = λ m q. rw (mark-of t, q, ← e) (h .eats); lies = h .lies }
+
+    pub eat-name : {word : List ℕ} {b : Bool} {r : Eaten} → Says s (nameOf t) word b → EatsIf s t b r → EatsName s t word r
+    unfolding eatName _>>=_ andThen kind
+    eat-name e h = record { eats = λ w q p. rw (name-of t, e .said w q p) (h .eats); lies = h .lies }
+
+    pub eat-at : {word : List ℕ} {b : Bool} {r : Eaten} → Says s (atOf t) word b → EatsIf s t b r → EatsAt s t word r
+    unfolding eatAt _>>=_ andThen kind
+    eat-at e h = record { eats = λ w q p. rw (at-of t, e .said w q p) (h .eats); lies = h .lies }
 
   module _ (t : Current) (c : ℕ) where
-    pub eat-no : (markOf t ≡ c → ⊥) → Eats s t c E.No
-    unfolding eat _>>=_ andThen kind eatIf pure
-    eat-no f = record { eats = λ m e. rw (mark-of t, e, ne-eqb (markOf t) c f); lies = tt }
-
-    pub eat-yes : markOf t ≡ c → (r : Arrived) → (next (stream s t) ≡ arrival s r) × Lies s (endIn t) r → {u : Current} → r ≡ At u → Eats s t c (E.Yes u)
-    unfolding eat _>>=_ andThen kind eatIf pure
-    eat-yes q r h {u} e =
-        let k : (next (stream s t) ≡ arrival s (At u)) × Lies s (endIn t) (At u) = rw e at h in
-        record { eats = λ m f. rw (mark-of t, f, eq-eqb (markOf t) c q, eatIf, k .0); lies = k .1 }
-
-    pub eat-refused : markOf t ≡ c → (r : Arrived) → (next (stream s t) ≡ arrival s r) × Lies s (endIn t) r → {d : Cause} {p : ℕ} → r ≡ Refused d p → Eats s t c (E.Refused d p)
-    unfolding eat _>>=_ andThen kind eatIf pure
-    eat-refused q r h {d} {p} e =
-        let k : (next (stream s t) ≡ arrival s (Refused d p)) × Lies s (endIn t) (Refused d p) = rw e at h in
-        record { eats = λ m f. rw (mark-of t, f, eq-eqb (markOf t) c q, eatIf, k .0); lies = tt }
-
     module _ (r : Eaten) (h : Eats s t c r) where
       pub expect-yes : {u : Current} → r ≡ E.Yes u → Expects s t c (At u)
       unfolding expect _>>=_ andThen must pure

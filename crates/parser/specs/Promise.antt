@@ -2,11 +2,14 @@
 -- Assumes nothing.
 use Prim.Native.Nat.{ℕ, _≤_, _<_}
 use Prim.Native.Char.{Char, code}
+use Prim.Native.String.{String as Quoted}
 use mathlib.Core.Path.{_≡_}
 use mathlib.Core.Bool.{Bool, true, false}
 use mathlib.Core.List.{List}
 use mathlib.Core.Option.{Option, none, some}
+use lib.Dec.{ltb}
 use lib.ListN.{length}
+use Rattle.basics.specs.Basics.{letters, every}
 use Rattle.lexer.specs.declared.Kind.{Kind}
 use Rattle.lexer.specs.declared.Kind.the-variants.{String, Set, Punctuation, Identifier}
 use Rattle.lexer.specs.declared.Kind.the-variants as K
@@ -14,12 +17,15 @@ use Rattle.error.specs.declared.Cause.{Cause}
 use Rattle.error.specs.Promise.{causeNumber}
 use Rattle.lexer.specs.Tokens as T
 use Rattle.lexer.specs.Tokens.{Tokens}
-use Rattle.lexer.specs.Promise.{tokensAt, kindOf as kindIn, Parted}
-use Rattle.parser.specs.Parser.{Answer, read, refused, eat, expect}
+use Rattle.lexer.specs.Promise.{tokensAt, partOf, kindOf as kindIn, Parted}
+use Rattle.lexer.specs.Promise as L
+use Rattle.parser.specs.Parser.{Answer, read, refused, says, eatIf, eat, eatName, eatAt, expect}
 use Rattle.parser.specs.declared.Current.{Current}
 use Rattle.parser.specs.declared.Current.the-variants.{Token, End}
 use Rattle.parser.specs.declared.Arrived.{Arrived}
 use Rattle.parser.specs.declared.Arrived.the-variants.{At, Refused}
+use Rattle.parser.specs.declared.Part.{Part}
+use Rattle.parser.specs.declared.Part.the-variants.{From, Nothing}
 use Rattle.parser.specs.declared.Eaten.{Eaten}
 use Rattle.parser.specs.declared.Eaten.the-variants as E
 
@@ -73,6 +79,11 @@ EatenLies s from (E.Yes u) = LiesIn s from u
 EatenLies s from E.No = Unit {0}
 EatenLies s from (E.Refused c p) = Unit {0}
 
+-- the current token is taken if a test says so
+pub record EatsIf (s : List ℕ) (t : Current) (b : Bool) (r : Eaten) : Type 0 where
+  pub eats : eatIf b (stream s t) ≡ eaten s t r
+  pub lies : EatenLies s (endIn t) r
+
 -- the mark with the code c is taken if it is the current token
 pub record Eats (s : List ℕ) (t : Current) (c : ℕ) (r : Eaten) : Type 0 where
   pub eats : (m : Char) → code m ≡ c → eat m (stream s t) ≡ eaten s t r
@@ -81,3 +92,55 @@ pub record Eats (s : List ℕ) (t : Current) (c : ℕ) (r : Eaten) : Type 0 wher
 pub record Expects (s : List ℕ) (t : Current) (c : ℕ) (r : Arrived) : Type 0 where
   pub expects : (m : Char) → code m ≡ c → expect m (stream s t) ≡ arrival s r
   pub lies : Lies s (endIn t) r
+
+-- ------------------------------------------------------------------ names
+
+-- the part of the source that is a name, and that follows an `@`
+abbrev pub namePart : Kind → Part
+namePart (Identifier a e) = From a e
+namePart (String q a e) = Nothing
+namePart (K.At a e) = Nothing
+namePart (Set i a e) = Nothing
+namePart (Punctuation c) = Nothing
+
+abbrev pub atPart : Kind → Part
+atPart (K.At a e) = From a e
+atPart (String q a e) = Nothing
+atPart (Set i a e) = Nothing
+atPart (Punctuation c) = Nothing
+atPart (Identifier a e) = Nothing
+
+abbrev pub nameOf : Current → Part
+nameOf (Token k start end) = namePart k
+nameOf (End p) = Nothing
+
+abbrev pub atOf : Current → Part
+atOf (Token k start end) = atPart k
+atOf (End p) = Nothing
+
+-- the characters of a part
+abbrev pub textIn : List ℕ → Part → Option (List ℕ)
+textIn s (From a e) = some (partOf s a e)
+textIn s Nothing = none
+
+-- its bytes are those of its characters
+abbrev pub Whole : List ℕ → Part → Type 0
+Whole s (From a e) = L.Part s a e
+Whole s Nothing = Unit {0}
+
+-- all ASCII
+abbrev pub isPlain : List ℕ → Bool
+isPlain w = every (λ c. ltb c 0x80) w
+
+-- whether there is a part, and it is this word
+pub record Says (s : List ℕ) (part : Part) (word : List ℕ) (r : Bool) : Type 0 where
+  pub said : (w : Quoted) → letters w ≡ word → isPlain word ≡ true → says w (textIn s part) ≡ r
+
+-- the name, or the word after an `@`, is taken if it is the current token
+pub record EatsName (s : List ℕ) (t : Current) (word : List ℕ) (r : Eaten) : Type 0 where
+  pub eats : (w : Quoted) → letters w ≡ word → isPlain word ≡ true → eatName w (stream s t) ≡ eaten s t r
+  pub lies : EatenLies s (endIn t) r
+
+pub record EatsAt (s : List ℕ) (t : Current) (word : List ℕ) (r : Eaten) : Type 0 where
+  pub eats : (w : Quoted) → letters w ≡ word → isPlain word ≡ true → eatAt w (stream s t) ≡ eaten s t r
+  pub lies : EatenLies s (endIn t) r

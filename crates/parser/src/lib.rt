@@ -6,7 +6,7 @@ ghost use mathlib.Core.Path.{_≡_};
 ghost use Rattle.error.specs.Promise.{causeNumber};
 ghost use Rattle.lexer.specs.Promise.{tokensAt, number};
 ghost use Rattle.parser.specs.Parser.{arrive as arriveD, next as nextD};
-ghost use Rattle.parser.specs.Promise.{stream, startIn, endIn, codeIn, markOf, arrival, Lies, Eats, Expects};
+ghost use Rattle.parser.specs.Promise.{stream, startIn, endIn, codeIn, markOf, arrival, Lies, Eats, Expects, namePart, atPart, nameOf, atOf, Whole, Says, EatsIf, EatsName, EatsAt};
 
 // The current token, with its start and end, or the end of the text. A token that the lexer refuses is never current: to
 // advance onto it is refused.
@@ -25,6 +25,12 @@ pub enum Eaten {
     Yes(Current),
     No,
     Refused(Cause, usize),
+}
+
+// A part of the source, or none.
+pub enum Part {
+    From(usize, usize),
+    Nothing,
 }
 
 fn cause(c: lexer::Cause) -> Cause
@@ -90,17 +96,24 @@ pub fn mark(token: Current) -> u32
     }
 }
 
-// The current token is taken if it is this mark.
-pub fn eat_punctuation(source: &[u8], token: Current, c: u32) -> Eaten
-    ensures { λ r. ⌜ Eats (now (source .entry)) token c r ⌝ }
+// The current token is taken if a test says so.
+fn eat_if(source: &[u8], token: Current, test: bool) -> Eaten
+    ensures { λ r. ⌜ EatsIf (now (source .entry)) token test r ⌝ }
 {
-    if mark(token) != c {
+    if !test {
         return Eaten::No;
     }
     match next(source, token) {
         Arrived::At(t) => Eaten::Yes(t),
         Arrived::Refused(cause, at) => Eaten::Refused(cause, at),
     }
+}
+
+// The current token is taken if it is this mark.
+pub fn eat_punctuation(source: &[u8], token: Current, c: u32) -> Eaten
+    ensures { λ r. ⌜ Eats (now (source .entry)) token c r ⌝ }
+{
+    eat_if(source, token, mark(token) == c)
 }
 
 // It must be this mark.
@@ -112,4 +125,77 @@ pub fn expect_punctuation(source: &[u8], token: Current, c: u32) -> Arrived
         Eaten::No => Arrived::Refused(Cause::UnexpectedToken, start(token)),
         Eaten::Refused(cause, at) => Arrived::Refused(cause, at),
     }
+}
+
+// The part of the source that is a name.
+fn name_part(kind: Kind) -> Part
+    ensures { λ r. ⌜ r ≡ namePart kind ⌝ }
+{
+    match kind {
+        Kind::Identifier(a, e) => Part::From(a, e),
+        Kind::String(_, _, _) => Part::Nothing,
+        Kind::At(_, _) => Part::Nothing,
+        Kind::Set(_, _, _) => Part::Nothing,
+        Kind::Punctuation(_) => Part::Nothing,
+    }
+}
+
+// The part of the source that follows an `@`.
+fn at_part(kind: Kind) -> Part
+    ensures { λ r. ⌜ r ≡ atPart kind ⌝ }
+{
+    match kind {
+        Kind::At(a, e) => Part::From(a, e),
+        Kind::String(_, _, _) => Part::Nothing,
+        Kind::Set(_, _, _) => Part::Nothing,
+        Kind::Punctuation(_) => Part::Nothing,
+        Kind::Identifier(_, _) => Part::Nothing,
+    }
+}
+
+// The name that the current token is.
+pub fn name(token: Current) -> Part
+    ensures { λ r. ⌜ r ≡ nameOf token ⌝ }
+{
+    match token {
+        Current::Token(kind, _, _) => name_part(kind),
+        Current::End(_) => Part::Nothing,
+    }
+}
+
+// What follows its `@`.
+pub fn at(token: Current) -> Part
+    ensures { λ r. ⌜ r ≡ atOf token ⌝ }
+{
+    match token {
+        Current::Token(kind, _, _) => at_part(kind),
+        Current::End(_) => Part::Nothing,
+    }
+}
+
+// Whether there is a part, and it is this word. The bytes are compared in place.
+pub fn says(source: &[u8], part: Part, word: &[u8]) -> bool
+    requires { ⌜ Whole (now source) part ⌝ }
+    ensures { λ r. ⌜ Says (now (source .entry)) part (now (word .entry)) r ⌝ }
+{
+    match part {
+        Part::From(a, e) => lexer::words::spells(&source[a..e], word),
+        Part::Nothing => false,
+    }
+}
+
+// The current token is taken if it is this name.
+pub fn eat_identifier_value(source: &[u8], token: Current, word: &[u8]) -> Eaten
+    requires { ⌜ Whole (now source) (nameOf token) ⌝ }
+    ensures { λ r. ⌜ EatsName (now (source .entry)) token (now (word .entry)) r ⌝ }
+{
+    eat_if(source, token, says(source, name(token), word))
+}
+
+// The current token is taken if it is `@` and this word.
+pub fn eat_at(source: &[u8], token: Current, word: &[u8]) -> Eaten
+    requires { ⌜ Whole (now source) (atOf token) ⌝ }
+    ensures { λ r. ⌜ EatsAt (now (source .entry)) token (now (word .entry)) r ⌝ }
+{
+    eat_if(source, token, says(source, at(token), word))
 }
