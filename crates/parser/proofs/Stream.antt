@@ -22,12 +22,16 @@ use Rattle.lexer.specs.declared.Cause as LexerCause
 use Rattle.lexer.specs.declared.Lexed.{Lexed}
 use Rattle.lexer.specs.declared.Lexed.the-variants as L
 use Rattle.lexer.specs.Promise.{tokensAt, number, answer, Placed, Reads}
-use Rattle.parser.specs.Parser.{Answer, read, refused, andThen, _>>=_, pure, startOf, kindOf, kind, markIn, nameIn, atIn, refuseHere, arrive, next, eatIf, eat, eatName, eatAt, must, expect}
+use Rattle.parser.specs.Parser.{Answer, read, refused, andThen, _>>=_, pure, startOf, kindOf, kind, markIn, nameIn, atIn, stringIn, here, refuseHere, taken, parseIdentifier, expectString, arrive, next, eatIf, eat, eatName, eatAt, must, expect}
 use Rattle.parser.specs.declared.Current.{Current}
 use Rattle.parser.specs.declared.Current.the-variants.{Token, End}
 use Rattle.parser.specs.declared.Arrived.{Arrived}
 use Rattle.parser.specs.declared.Arrived.the-variants.{At, Refused}
-use Rattle.parser.specs.Promise.{stream, startIn, endIn, codeIn, markOf, arrival, LiesIn, Lies, eaten, EatsIf, Eats, EatsName, EatsAt, Expects, nameOf, atOf, textIn, Whole, Says}
+use Rattle.parser.specs.Promise.{stream, startIn, endIn, codeIn, markOf, arrival, LiesIn, Lies, eaten, EatsIf, Eats, EatsName, EatsAt, Expects, nameOf, atOf, stringOf, textIn, Whole, Says, takenBy, mapped, Takes, Identifies, TakesString}
+use Rattle.parser.specs.declared.Taken.{Taken}
+use Rattle.parser.specs.declared.Taken.the-variants as G
+use Rattle.lexer.specs.Escapes.{decodeString}
+use Rattle.tree.specs.Syntax.{Identifier as Name}
 use Rattle.parser.specs.declared.Part.{Part}
 use Rattle.parser.specs.declared.Part.the-variants.{From, Nothing}
 use Rattle.parser.specs.declared.Eaten.{Eaten}
@@ -174,3 +178,53 @@ module _ (s : List ℕ) where
       pub expect-refused : {d : Cause} {p : ℕ} → r ≡ E.Refused d p → Expects s t c (Refused d p)
       unfolding expect _>>=_ andThen
       expect-refused {d} {p} e = let k : Eats s t c (E.Refused d p) = rw e at h in record { expects = λ m f. rw (k .eats m f); lies = tt }
+
+  -- ------------------------------------------------------------------ taking what a token holds
+
+  pub string-of : (t : Current) → stringIn (kindOf (stream s t)) ≡ mapped decodeString (textIn s (stringOf t))
+  unfolding kindOf stream
+  string-of (Token (String q a e) start end) = refl
+  string-of (Token (K.At a e) start end) = refl
+  string-of (Token (Set i a e) start end) = refl
+  string-of (Token (Punctuation c) start end) = refl
+  string-of (Token (Identifier a e) start end) = refl
+  string-of (End p) = refl
+
+  module _ (t : Current) where
+    pub take-nothing : {part : Part} {p : ℕ} → part ≡ Nothing → p ≡ startIn t → Takes s t part (G.Refused UnexpectedToken p)
+    unfolding taken refuseHere
+    take-nothing e q = record { takes = λ f. rw (e, taken, start-of t, q); lies = tt }
+
+    module _ {part : Part} {a e : ℕ} (i : part ≡ From a e) (r : Arrived) (h : (next (stream s t) ≡ arrival s r) × Lies s (endIn t) r) where
+      pub take-got : {u : Current} → r ≡ At u → Takes s t part (G.Got a e u)
+      unfolding taken _>>=_ andThen pure
+      take-got {u} q =
+          let k : (next (stream s t) ≡ arrival s (At u)) × Lies s (endIn t) (At u) = rw q at h in
+          record { takes = λ f. rw (i, taken, k .0); lies = (k .1, i) }
+
+      pub take-refused : {d : Cause} {p : ℕ} → r ≡ Refused d p → Takes s t part (G.Refused d p)
+      unfolding taken _>>=_ andThen
+      take-refused {d} {p} q =
+          let k : (next (stream s t) ≡ arrival s (Refused d p)) × Lies s (endIn t) (Refused d p) = rw q at h in
+          record { takes = λ f. rw (i, taken, k .0); lies = tt }
+
+    same-text : (o : Option (List ℕ)) → mapped (λ n. n) o ≡ o
+    same-text none = refl
+    same-text (some n) = refl
+
+    abbrev nameAt : List ℕ → Name ℕ
+    nameAt n = record { start = startIn t; name = n }
+
+    named : (r : Taken) → andThen (takenBy (λ n. n) s r) (λ n. pure (nameAt n)) ≡ takenBy nameAt s r
+    unfolding andThen pure
+    named (G.Got a e u) = refl
+    named (G.Refused d p) = refl
+
+    pub identifies : {r : Taken} → Takes s t (nameOf t) r → Identifies s t r
+    unfolding parseIdentifier _>>=_ andThen here kind
+    identifies {r} h =
+        record { takes = rw (start-of t, name-of t, ← same-text (textIn s (nameOf t)), h .takes (λ n. n)) (named r); lies = h .lies }
+
+    pub takes-string : {r : Taken} → Takes s t (stringOf t) r → TakesString s t r
+    unfolding expectString _>>=_ andThen kind
+    takes-string h = record { takes = rw (string-of t) (h .takes decodeString); lies = h .lies }

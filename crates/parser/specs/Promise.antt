@@ -19,13 +19,17 @@ use Rattle.lexer.specs.Tokens as T
 use Rattle.lexer.specs.Tokens.{Tokens}
 use Rattle.lexer.specs.Promise.{tokensAt, partOf, kindOf as kindIn, Parted}
 use Rattle.lexer.specs.Promise as L
-use Rattle.parser.specs.Parser.{Answer, read, refused, says, eatIf, eat, eatName, eatAt, expect}
+use Rattle.lexer.specs.Escapes.{decodeString}
+use Rattle.tree.specs.Syntax.{Identifier as Name}
+use Rattle.parser.specs.Parser.{Answer, read, refused, says, eatIf, eat, eatName, eatAt, expect, taken, parseIdentifier, expectString}
 use Rattle.parser.specs.declared.Current.{Current}
 use Rattle.parser.specs.declared.Current.the-variants.{Token, End}
 use Rattle.parser.specs.declared.Arrived.{Arrived}
 use Rattle.parser.specs.declared.Arrived.the-variants.{At, Refused}
 use Rattle.parser.specs.declared.Part.{Part}
 use Rattle.parser.specs.declared.Part.the-variants.{From, Nothing}
+use Rattle.parser.specs.declared.Taken.{Taken}
+use Rattle.parser.specs.declared.Taken.the-variants as G
 use Rattle.parser.specs.declared.Eaten.{Eaten}
 use Rattle.parser.specs.declared.Eaten.the-variants as E
 
@@ -95,7 +99,7 @@ pub record Expects (s : List ℕ) (t : Current) (c : ℕ) (r : Arrived) : Type 0
 
 -- ------------------------------------------------------------------ names
 
--- the part of the source that is a name, and that follows an `@`
+-- the part of the source that is a name, that follows an `@`, and between a string's quotes
 abbrev pub namePart : Kind → Part
 namePart (Identifier a e) = From a e
 namePart (String q a e) = Nothing
@@ -110,6 +114,13 @@ atPart (Set i a e) = Nothing
 atPart (Punctuation c) = Nothing
 atPart (Identifier a e) = Nothing
 
+abbrev pub stringPart : Kind → Part
+stringPart (String q a e) = From a e
+stringPart (K.At a e) = Nothing
+stringPart (Set i a e) = Nothing
+stringPart (Punctuation c) = Nothing
+stringPart (Identifier a e) = Nothing
+
 abbrev pub nameOf : Current → Part
 nameOf (Token k start end) = namePart k
 nameOf (End p) = Nothing
@@ -117,6 +128,10 @@ nameOf (End p) = Nothing
 abbrev pub atOf : Current → Part
 atOf (Token k start end) = atPart k
 atOf (End p) = Nothing
+
+abbrev pub stringOf : Current → Part
+stringOf (Token k start end) = stringPart k
+stringOf (End p) = Nothing
 
 -- the characters of a part
 abbrev pub textIn : List ℕ → Part → Option (List ℕ)
@@ -144,3 +159,32 @@ pub record EatsName (s : List ℕ) (t : Current) (word : List ℕ) (r : Eaten) :
 pub record EatsAt (s : List ℕ) (t : Current) (word : List ℕ) (r : Eaten) : Type 0 where
   pub eats : (w : Quoted) → letters w ≡ word → isPlain word ≡ true → eatAt w (stream s t) ≡ eaten s t r
   pub lies : EatenLies s (endIn t) r
+
+-- ------------------------------------------------------------------ taking what a token holds
+
+-- the token after it lies behind it; the part is one of the token's
+abbrev pub TakenLies : List ℕ → Current → Part → Taken → Type 0
+TakenLies s t part (G.Got a e u) = LiesIn s (endIn t) u × (part ≡ From a e)
+TakenLies s t part (G.Refused c p) = Unit {0}
+
+-- with a value made of its characters
+abbrev pub takenBy : {A : Type 0} → (List ℕ → A) → List ℕ → Taken → Answer ℕ A
+takenBy f s (G.Got a e u) = read (f (partOf s a e)) (stream s u)
+takenBy f s (G.Refused c p) = refused (causeNumber c) p
+
+abbrev pub mapped : (List ℕ → List ℕ) → Option (List ℕ) → Option (List ℕ)
+mapped f (some t) = some (f t)
+mapped f none = none
+
+-- the token that holds a part is taken; without one it is refused
+pub record Takes (s : List ℕ) (t : Current) (part : Part) (r : Taken) : Type 0 where
+  pub takes : (f : List ℕ → List ℕ) → taken (mapped f (textIn s part)) (stream s t) ≡ takenBy f s r
+  pub lies : TakenLies s t part r
+
+pub record Identifies (s : List ℕ) (t : Current) (r : Taken) : Type 0 where
+  pub takes : parseIdentifier (stream s t) ≡ takenBy (λ n. record { start = startIn t; name = n }) s r
+  pub lies : TakenLies s t (nameOf t) r
+
+pub record TakesString (s : List ℕ) (t : Current) (r : Taken) : Type 0 where
+  pub takes : expectString (stream s t) ≡ takenBy decodeString s r
+  pub lies : TakenLies s t (stringOf t) r

@@ -6,7 +6,7 @@ ghost use mathlib.Core.Path.{_≡_};
 ghost use Rattle.error.specs.Promise.{causeNumber};
 ghost use Rattle.lexer.specs.Promise.{tokensAt, number};
 ghost use Rattle.parser.specs.Parser.{arrive as arriveD, next as nextD};
-ghost use Rattle.parser.specs.Promise.{stream, startIn, endIn, codeIn, markOf, arrival, Lies, Eats, Expects, namePart, atPart, nameOf, atOf, Whole, Says, EatsIf, EatsName, EatsAt};
+ghost use Rattle.parser.specs.Promise.{stream, startIn, endIn, codeIn, markOf, arrival, Lies, Eats, Expects, namePart, atPart, nameOf, atOf, Whole, Says, EatsIf, EatsName, EatsAt, stringPart, stringOf, Takes, Identifies, TakesString};
 
 // The current token, with its start and end, or the end of the text. A token that the lexer refuses is never current: to
 // advance onto it is refused.
@@ -24,6 +24,12 @@ pub enum Arrived {
 pub enum Eaten {
     Yes(Current),
     No,
+    Refused(Cause, usize),
+}
+
+// The part of the source that was taken, and the token after it.
+pub enum Taken {
+    Got(usize, usize, Current),
     Refused(Cause, usize),
 }
 
@@ -198,4 +204,54 @@ pub fn eat_at(source: &[u8], token: Current, word: &[u8]) -> Eaten
     ensures { λ r. ⌜ EatsAt (now (source .entry)) token (now (word .entry)) r ⌝ }
 {
     eat_if(source, token, says(source, at(token), word))
+}
+
+// The part of the source between the quotes of a string.
+fn string_part(kind: Kind) -> Part
+    ensures { λ r. ⌜ r ≡ stringPart kind ⌝ }
+{
+    match kind {
+        Kind::String(_, a, e) => Part::From(a, e),
+        Kind::At(_, _) => Part::Nothing,
+        Kind::Set(_, _, _) => Part::Nothing,
+        Kind::Punctuation(_) => Part::Nothing,
+        Kind::Identifier(_, _) => Part::Nothing,
+    }
+}
+
+// What stands between the quotes of the current token.
+pub fn string(token: Current) -> Part
+    ensures { λ r. ⌜ r ≡ stringOf token ⌝ }
+{
+    match token {
+        Current::Token(kind, _, _) => string_part(kind),
+        Current::End(_) => Part::Nothing,
+    }
+}
+
+// The current token, which must hold a part, is taken.
+fn take(source: &[u8], token: Current, part: Part) -> Taken
+    ensures { λ r. ⌜ Takes (now (source .entry)) token part r ⌝ }
+{
+    let Part::From(a, e) = part else {
+        return Taken::Refused(Cause::UnexpectedToken, start(token));
+    };
+    match next(source, token) {
+        Arrived::At(t) => Taken::Got(a, e, t),
+        Arrived::Refused(cause, at) => Taken::Refused(cause, at),
+    }
+}
+
+// A name; its start is the token's.
+pub fn parse_identifier(source: &[u8], token: Current) -> Taken
+    ensures { λ r. ⌜ Identifies (now (source .entry)) token r ⌝ }
+{
+    take(source, token, name(token))
+}
+
+// A string; its value is decoded where it is stored.
+pub fn expect_string(source: &[u8], token: Current) -> Taken
+    ensures { λ r. ⌜ TakesString (now (source .entry)) token r ⌝ }
+{
+    take(source, token, string(token))
 }
