@@ -3,3 +3,4 @@ pub mod Back
 pub mod Matching
 pub mod Trees
 pub mod Equal
+pub mod Stores

@@ -4,13 +4,16 @@
 ghost use mathlib.Core.Path.{_≡_};
 ghost use Prim.Native.Nat.{ℕ, _+_, _*_, _≤_, _<_};
 ghost use mathlib.Core.List.{reverse};
-ghost use lib.ListN.{length};
+ghost use lib.ListN.{length, take};
 ghost use lib.Dec.{eqb};
 ghost use mathlib.Core.Bool.{_||_};
 ghost use Rattle.basics.specs.Basics.{among, same, within};
-ghost use Rattle.tree.specs.Records.{width};
+ghost use Rattle.characters.specs.Promise.{written, flat};
+ghost use Rattle.tree.specs.Records.{width, wordsOf};
+ghost use Rattle.tree.specs.CharClasses.{ranges, classValue};
+ghost use Rattle.tree.specs.Stored.{repeatValue, specializeValue, markerNumber, precValue};
 ghost use Rattle.tree.specs.OneTree.{isKind, isExpression, hasText, valuesFit, groupsOf, textFits, begins as beginsD, childrenFit, recordFits, build};
-ghost use Rattle.tree.specs.Promise.{countOf, wordAt, recordAt, nodeAt, firstOf, kindBefore, kindsBack, kindsOf, groupsIn, rootOf, isSome, sameNode, comparison};
+ghost use Rattle.tree.specs.Promise.{classOf, repeatOf, specializeOf, markerOf, precOf, recordOf, countOf, wordAt, recordAt, nodeAt, firstOf, kindBefore, kindsBack, kindsOf, groupsIn, rootOf, isSome, sameNode, comparison};
 
 // How many words a record has, and which is which.
 const WIDTH: usize = 7;
@@ -27,6 +30,56 @@ const SECOND: usize = 5;
 
 const CHILDREN: usize = 6;
 
+// `CharClass`, `RepeatKind`, `SpecializeKind`, `ConflictMarkerKind` and `PrecKind` of node.rs; the last with no kind as a case.
+pub enum CharClass {
+    AsciiLetter,
+    AsciiLowercase,
+    AsciiUppercase,
+    Digit,
+    Whitespace,
+    Eof,
+}
+
+pub enum RepeatKind {
+    Optional,
+    ZeroOrMore,
+    OneOrMore,
+}
+
+pub enum SpecializeKind {
+    Extend,
+    Specialize,
+}
+
+pub enum ConflictMarkerKind {
+    Ambiguity,
+    Precedence,
+}
+
+pub enum PrecKind {
+    Missing,
+    Left,
+    Right,
+    Cut,
+}
+
+// The ends of a class's spans: the first code and one past the last of each, `count` spans.
+pub struct Ranges {
+    pub ends: [u32; 20],
+    pub count: usize,
+}
+
+// The words of a record.
+pub struct Record {
+    pub kind: u32,
+    pub start: u32,
+    pub place: u32,
+    pub size: u32,
+    pub value: u32,
+    pub second: u32,
+    pub children: u32,
+}
+
 // What the root of a tree has to be.
 pub enum Root {
     Expression,
@@ -38,6 +91,158 @@ pub enum Comparison {
     Equal,
     Different,
     NotATree,
+}
+
+// `CharClass::ranges`.
+pub fn char_class_ranges(class: CharClass) -> Ranges
+    ensures { λ r. ⌜ take (r .count * 2) (r .ends) ≡ flat (ranges (classOf class)) ⌝ }
+{
+    match class {
+        CharClass::AsciiLetter => Ranges {
+            ends: [
+                65,
+                91,
+                97,
+                123,
+                0,
+                0,
+                0,
+                0,
+                0,
+                0,
+                0,
+                0,
+                0,
+                0,
+                0,
+                0,
+                0,
+                0,
+                0,
+                0,
+            ],
+            count: 2,
+        },
+        CharClass::AsciiLowercase => Ranges {
+            ends: [
+                97,
+                123,
+                0,
+                0,
+                0,
+                0,
+                0,
+                0,
+                0,
+                0,
+                0,
+                0,
+                0,
+                0,
+                0,
+                0,
+                0,
+                0,
+                0,
+                0,
+            ],
+            count: 1,
+        },
+        CharClass::AsciiUppercase => Ranges {
+            ends: [65, 91, 0, 0, 0, 0, 0, 0, 0, 0, 0, 0, 0, 0, 0, 0, 0, 0, 0, 0],
+            count: 1,
+        },
+        CharClass::Digit => Ranges {
+            ends: [48, 58, 0, 0, 0, 0, 0, 0, 0, 0, 0, 0, 0, 0, 0, 0, 0, 0, 0, 0],
+            count: 1,
+        },
+        CharClass::Whitespace => Ranges {
+            ends: [
+                9,
+                14,
+                32,
+                33,
+                133,
+                134,
+                160,
+                161,
+                5760,
+                5761,
+                8192,
+                8203,
+                8232,
+                8234,
+                8239,
+                8240,
+                8287,
+                8288,
+                12288,
+                12289,
+            ],
+            count: 10,
+        },
+        CharClass::Eof => Ranges {
+            ends: [0, 0, 0, 0, 0, 0, 0, 0, 0, 0, 0, 0, 0, 0, 0, 0, 0, 0, 0, 0],
+            count: 0,
+        },
+    }
+}
+
+// The value of a class's record.
+pub fn class_value(class: CharClass) -> u32
+    ensures { λ r. ⌜ r ≡ classValue (classOf class) ⌝ }
+{
+    match class {
+        CharClass::AsciiLetter => 0,
+        CharClass::AsciiLowercase => 1,
+        CharClass::AsciiUppercase => 2,
+        CharClass::Digit => 3,
+        CharClass::Whitespace => 4,
+        CharClass::Eof => 5,
+    }
+}
+
+// The value of a repeat's record.
+pub fn repeat_value(kind: RepeatKind) -> u32
+    ensures { λ r. ⌜ r ≡ repeatValue (repeatOf kind) ⌝ }
+{
+    match kind {
+        RepeatKind::Optional => 0,
+        RepeatKind::ZeroOrMore => 1,
+        RepeatKind::OneOrMore => 2,
+    }
+}
+
+// The value of a specialize's record, and of an external specializer's.
+pub fn specialize_value(kind: SpecializeKind) -> u32
+    ensures { λ r. ⌜ r ≡ specializeValue (specializeOf kind) ⌝ }
+{
+    match kind {
+        SpecializeKind::Extend => 1,
+        SpecializeKind::Specialize => 2,
+    }
+}
+
+// The kind of a marker's record.
+pub fn marker_number(kind: ConflictMarkerKind) -> u32
+    ensures { λ r. ⌜ r ≡ markerNumber (markerOf kind) ⌝ }
+{
+    match kind {
+        ConflictMarkerKind::Ambiguity => 41,
+        ConflictMarkerKind::Precedence => 42,
+    }
+}
+
+// The value of a precedence item's record.
+pub fn prec_value(kind: PrecKind) -> u32
+    ensures { λ r. ⌜ r ≡ precValue (precOf kind) ⌝ }
+{
+    match kind {
+        PrecKind::Missing => 0,
+        PrecKind::Left => 1,
+        PrecKind::Right => 2,
+        PrecKind::Cut => 3,
+    }
 }
 
 fn wide(x: u32) -> usize
@@ -505,4 +710,42 @@ pub fn structurally_eq(
         i += 1;
     }
     Comparison::Equal
+}
+
+// Stores a record at a place where it fits there, and says how many words it takes in any case.
+pub fn put(records: &mut [u32], at: usize, r: Record) -> usize
+    ensures { λ n. ⌜ (n ≡ width) × (now (records .exit) ≡ written (now (records .entry)) at (wordsOf (recordOf r))) ⌝ }
+{
+    if records.len() < at {
+        return WIDTH;
+    }
+    if records.len() - at < WIDTH {
+        return WIDTH;
+    }
+    records[at] = r.kind;
+    records[at + 1] = r.start;
+    records[at + 2] = r.place;
+    records[at + 3] = r.size;
+    records[at + 4] = r.value;
+    records[at + 5] = r.second;
+    records[at + 6] = r.children;
+    WIDTH
+}
+
+// Stores a text at a place where it fits there, and says how many bytes it takes in any case.
+pub fn put_text(texts: &mut [u8], at: usize, text: &[u8]) -> usize
+    ensures { λ n. ⌜ (n ≡ length (now (text .entry))) × (now (texts .exit) ≡ written (now (texts .entry)) at (now (text .entry))) ⌝ }
+{
+    if texts.len() < at {
+        return text.len();
+    }
+    if texts.len() - at < text.len() {
+        return text.len();
+    }
+    let mut i = 0;
+    while i < text.len() {
+        texts[at + i] = text[i];
+        i += 1;
+    }
+    text.len()
 }
