@@ -4,3 +4,4 @@ pub mod Matching
 pub mod Trees
 pub mod Equal
 pub mod Stores
+pub mod Encoded

@@ -4,7 +4,8 @@ ghost use lib.Dec.{eqb};
 ghost use Rattle.tree.specs.OneTree.{isExpression, build};
 ghost use Rattle.tree.specs.Promise.{isSome, comparison};
 ghost use Rattle.tree_c.specs.Answers.{comparisonNumber};
-use tree::{Comparison, Root};
+use tree::Comparison;
+use tree::Root;
 
 // The words and texts are one tree, its root an expression.
 #[no_mangle]
@@ -24,7 +25,12 @@ pub extern "C" fn tree_is_grammar(records: &[u32], texts: &[u8]) -> bool
 
 // 1 for equal, 0 for different, 25 where one of the two is not a tree.
 #[no_mangle]
-pub extern "C" fn tree_structurally_eq(left: &[u32], lefts: &[u8], right: &[u32], rights: &[u8]) -> u32
+pub extern "C" fn tree_structurally_eq(
+    left: &[u32],
+    lefts: &[u8],
+    right: &[u32],
+    rights: &[u8],
+) -> u32
     ensures { λ r. ⌜ r ≡ comparisonNumber (comparison (build isExpression (now (left .entry)) (now (lefts .entry))) (build isExpression (now (right .entry)) (now (rights .entry)))) ⌝ }
 {
     match tree::structurally_eq(left, lefts, right, rights) {
