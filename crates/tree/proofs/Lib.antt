@@ -5,3 +5,6 @@ pub mod Trees
 pub mod Equal
 pub mod Stores
 pub mod Encoded
+pub mod Upto
+pub mod ExpressionsFit
+pub mod GrammarsFit

@@ -483,7 +483,7 @@ fn is_part(k: u32) -> bool
     }
 }
 
-// Where the branch before the last begins and ends: asked for only where there is one, since this counts back over the last.
+// Where the last branch begins and the one before it ends, where some are `left`. Otherwise nobody asks, and the count back is spared.
 fn sibling(records: &[u32], end: usize, left: usize) -> usize
     requires { ⌜ end ≤ countOf (now records) ⌝ }
     ensures { λ r. ⌜ (r ≤ countOf (now (records .entry))) × (0 < left → r ≡ firstOf (now (records .entry)) end 1) ⌝ }
@@ -591,9 +591,8 @@ fn is_root(root: Root, k: u32) -> bool
     }
 }
 
-// The words and texts are one tree, with the root that is asked for. Each record is visited once, and once more for each sibling after
-// it of its own branch or of a branch it lies in: at most records times levels, and records alone where a branch is never followed by
-// a deep one, as in stacked repeats.
+// The words and texts are one tree, with the root that is asked for. Each record is visited once, and passed once more for each branch
+// it lies in that has a sibling before it: at most records times levels. Stacked repeats have no siblings, so they take one visit each.
 pub fn is_tree(root: Root, records: &[u32], texts: &[u8]) -> bool
     ensures { λ r. ⌜ r ≡ isSome (build (rootOf root) (now (records .entry)) (now (texts .entry))) ⌝ }
 {
