@@ -124,7 +124,7 @@ text-fits room at kind start value second children (c ∷ t) h g =
 
 -- ------------------------------------------------------------------ record after record
 
-records-append : (a : ℕ) (xs ys : List Node) → recordsFrom a (xs ++ ys) ≡ recordsFrom a xs ++ recordsFrom (a + length (textsOf xs)) ys
+pub records-append : (a : ℕ) (xs ys : List Node) → recordsFrom a (xs ++ ys) ≡ recordsFrom a xs ++ recordsFrom (a + length (textsOf xs)) ys
 unfolding recordsFrom textsOf
 records-append a [] ys = let n : a ≡ a + 0 = omega arith in ap (λ k. recordsFrom k ys) n
 records-append a (x ∷ xs) ys =
@@ -132,7 +132,7 @@ records-append a (x ∷ xs) ys =
     let n : a + length (x .row .text) + length (textsOf xs) ≡ a + length (x .row .text ++ textsOf xs) = omega arith in
     rw (records-append (a + length (x .row .text)) xs ys, n)
 
-texts-append : (xs ys : List Node) → textsOf (xs ++ ys) ≡ textsOf xs ++ textsOf ys
+pub texts-append : (xs ys : List Node) → textsOf (xs ++ ys) ≡ textsOf xs ++ textsOf ys
 unfolding textsOf
 texts-append [] ys = refl
 texts-append (x ∷ xs) ys = rw (texts-append xs ys) (sym (append-assoc (x .row .text) (textsOf xs) (textsOf ys)))
@@ -141,7 +141,7 @@ abbrev node : Row → Branches → Node
 node r bs = record { row = r; children = count bs }
 
 module _ (ts : List ℕ) where
-  build-step : (at : ℕ) (r : Record) (rs : List Record) (l : List Branch) → (leb (r .children) (length l) && recordFits (length ts) at r (map kindOf (take (r .children) l))) ≡ true
+  pub build-step : (at : ℕ) (r : Record) (rs : List Record) (l : List Branch) → (leb (r .children) (length l) && recordFits (length ts) at r (map kindOf (take (r .children) l))) ≡ true
       → buildFrom ts at (r ∷ rs) l ≡ buildFrom ts (at + r .size) rs (over (rowOf ts r) (r .children) l)
   unfolding buildFrom
   build-step at r rs l e = rw (e, buildFrom)

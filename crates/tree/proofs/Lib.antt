@@ -5,6 +5,7 @@ pub mod Trees
 pub mod Equal
 pub mod Stores
 pub mod Encoded
+pub mod Decoded
 pub mod Upto
 pub mod ExpressionsFit
 pub mod GrammarsFit
