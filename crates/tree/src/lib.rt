@@ -3,7 +3,7 @@
 // recursion: a branch is passed by counting back over its records.
 ghost use mathlib.Core.Path.{_≡_};
 ghost use Prim.Native.Nat.{ℕ, _+_, _*_, _≤_, _<_};
-ghost use mathlib.Core.List.{reverse};
+ghost use mathlib.Core.List.{[], _∷_, reverse};
 ghost use lib.ListN.{length, take};
 ghost use lib.Dec.{eqb};
 ghost use mathlib.Core.Bool.{_||_};
@@ -29,6 +29,50 @@ const VALUE: usize = 4;
 const SECOND: usize = 5;
 
 const CHILDREN: usize = 6;
+
+// The kinds of a group of children: one kind, by its number, or one of these lists. As many children of them as there are, or 64 more for
+// just one, or 128 more for at most one.
+const EXPRESSIONS: u32 = 50;
+
+const SLOTS: u32 = 51;
+
+const REFERENCES: u32 = 52;
+
+const PARTS: u32 = 53;
+
+const ONE_EXPRESSION: u32 = 114;
+
+const ONE_REFERENCE: u32 = 116;
+
+const ONE_SOURCE: u32 = 79;
+
+const ONE_NAME: u32 = 90;
+
+const AT_MOST_ONE_NODE: u32 = 141;
+
+// The ends of the spans of class whitespace.
+const WHITESPACE: [u32; 20] = [
+    9,
+    14,
+    32,
+    33,
+    133,
+    134,
+    160,
+    161,
+    5760,
+    5761,
+    8192,
+    8203,
+    8232,
+    8234,
+    8239,
+    8240,
+    8287,
+    8288,
+    12288,
+    12289,
+];
 
 // `CharClass`, `RepeatKind`, `SpecializeKind`, `ConflictMarkerKind` and `PrecKind` of node.rs; the last with no kind as a case.
 pub enum CharClass {
@@ -93,96 +137,42 @@ pub enum Comparison {
     NotATree,
 }
 
+// One span, and two.
+fn one_range(first: u32, past: u32) -> Ranges
+    ensures { λ r. ⌜ (r .count ≡ 1) × (take 2 (r .ends) ≡ first ∷ past ∷ []) ⌝ }
+{
+    let mut ends = [0u32; 20];
+    ends[0] = first;
+    ends[1] = past;
+    Ranges { ends, count: 1 }
+}
+
+fn two_ranges(first: u32, past: u32, second: u32, end: u32) -> Ranges
+    ensures { λ r. ⌜ (r .count ≡ 2) × (take 4 (r .ends) ≡ first ∷ past ∷ second ∷ end ∷ []) ⌝ }
+{
+    let mut ends = [0u32; 20];
+    ends[0] = first;
+    ends[1] = past;
+    ends[2] = second;
+    ends[3] = end;
+    Ranges { ends, count: 2 }
+}
+
 // `CharClass::ranges`.
 pub fn char_class_ranges(class: CharClass) -> Ranges
     ensures { λ r. ⌜ take (r .count * 2) (r .ends) ≡ flat (ranges (classOf class)) ⌝ }
 {
     match class {
-        CharClass::AsciiLetter => Ranges {
-            ends: [
-                65,
-                91,
-                97,
-                123,
-                0,
-                0,
-                0,
-                0,
-                0,
-                0,
-                0,
-                0,
-                0,
-                0,
-                0,
-                0,
-                0,
-                0,
-                0,
-                0,
-            ],
-            count: 2,
-        },
-        CharClass::AsciiLowercase => Ranges {
-            ends: [
-                97,
-                123,
-                0,
-                0,
-                0,
-                0,
-                0,
-                0,
-                0,
-                0,
-                0,
-                0,
-                0,
-                0,
-                0,
-                0,
-                0,
-                0,
-                0,
-                0,
-            ],
-            count: 1,
-        },
-        CharClass::AsciiUppercase => Ranges {
-            ends: [65, 91, 0, 0, 0, 0, 0, 0, 0, 0, 0, 0, 0, 0, 0, 0, 0, 0, 0, 0],
-            count: 1,
-        },
-        CharClass::Digit => Ranges {
-            ends: [48, 58, 0, 0, 0, 0, 0, 0, 0, 0, 0, 0, 0, 0, 0, 0, 0, 0, 0, 0],
-            count: 1,
-        },
+        CharClass::AsciiLetter => two_ranges(65, 91, 97, 123),
+        CharClass::AsciiLowercase => one_range(97, 123),
+        CharClass::AsciiUppercase => one_range(65, 91),
+        CharClass::Digit => one_range(48, 58),
         CharClass::Whitespace => Ranges {
-            ends: [
-                9,
-                14,
-                32,
-                33,
-                133,
-                134,
-                160,
-                161,
-                5760,
-                5761,
-                8192,
-                8203,
-                8232,
-                8234,
-                8239,
-                8240,
-                8287,
-                8288,
-                12288,
-                12289,
-            ],
+            ends: WHITESPACE,
             count: 10,
         },
         CharClass::Eof => Ranges {
-            ends: [0, 0, 0, 0, 0, 0, 0, 0, 0, 0, 0, 0, 0, 0, 0, 0, 0, 0, 0, 0],
+            ends: WHITESPACE,
             count: 0,
         },
     }
@@ -395,48 +385,72 @@ fn values_fit(kind: u32, value: u32, second: u32) -> bool
     }
 }
 
+// Groups of children, up to a 0.
+fn one_group(a: u32) -> [u32; 14]
+    ensures { λ r. ⌜ (length r ≡ 14) × (groupsIn r ≡ groupsIn (a ∷ [])) ⌝ }
+{
+    [a, 0, 0, 0, 0, 0, 0, 0, 0, 0, 0, 0, 0, 0]
+}
+
+fn two_groups(a: u32, b: u32) -> [u32; 14]
+    ensures { λ r. ⌜ (length r ≡ 14) × (groupsIn r ≡ groupsIn (a ∷ b ∷ [])) ⌝ }
+{
+    [a, b, 0, 0, 0, 0, 0, 0, 0, 0, 0, 0, 0, 0]
+}
+
+fn three_groups(a: u32, b: u32, c: u32) -> [u32; 14]
+    ensures { λ r. ⌜ (length r ≡ 14) × (groupsIn r ≡ groupsIn (a ∷ b ∷ c ∷ [])) ⌝ }
+{
+    [a, b, c, 0, 0, 0, 0, 0, 0, 0, 0, 0, 0, 0]
+}
+
+fn four_groups(a: u32, b: u32, c: u32, d: u32) -> [u32; 14]
+    ensures { λ r. ⌜ (length r ≡ 14) × (groupsIn r ≡ groupsIn (a ∷ b ∷ c ∷ d ∷ [])) ⌝ }
+{
+    [a, b, c, d, 0, 0, 0, 0, 0, 0, 0, 0, 0, 0]
+}
+
 // Those of a sequence: none where it is explicitly empty.
 fn slots(value: u32) -> [u32; 14]
     ensures { λ r. ⌜ (length r ≡ 14) × (groupsIn r ≡ reverse (groupsOf 34 value)) ⌝ }
 {
     match value {
-        0 => [51, 0, 0, 0, 0, 0, 0, 0, 0, 0, 0, 0, 0, 0],
-        _ => [0, 0, 0, 0, 0, 0, 0, 0, 0, 0, 0, 0, 0, 0],
+        0 => one_group(SLOTS),
+        _ => one_group(0),
     }
 }
 
-// The groups of children of a record, last first, up to a 0. A group is the number of its kind, or 50 for expressions, 51 for these and
-// markers, 52 for names and literals, 53 for parts; 64 more where it is just one child, 128 more where it is at most one.
+// The groups of children of a record, last first, up to a 0.
 fn groups(kind: u32, value: u32) -> [u32; 14]
     ensures { λ r. ⌜ (length r ≡ 14) × (groupsIn r ≡ reverse (groupsOf kind value)) ⌝ }
 {
     match kind {
         1 => [25, 24, 23, 22, 20, 19, 18, 16, 14, 12, 8, 3, 2, 0],
-        2 => [114, 4, 5, 0, 0, 0, 0, 0, 0, 0, 0, 0, 0, 0],
-        3 => [114, 4, 5, 0, 0, 0, 0, 0, 0, 0, 0, 0, 0, 0],
-        5 => [53, 0, 0, 0, 0, 0, 0, 0, 0, 0, 0, 0, 0, 0],
-        8 => [11, 3, 10, 9, 0, 0, 0, 0, 0, 0, 0, 0, 0, 0],
-        9 => [52, 0, 0, 0, 0, 0, 0, 0, 0, 0, 0, 0, 0, 0],
-        10 => [116, 116, 0, 0, 0, 0, 0, 0, 0, 0, 0, 0, 0, 0],
-        11 => [5, 0, 0, 0, 0, 0, 0, 0, 0, 0, 0, 0, 0, 0],
-        12 => [141, 3, 9, 0, 0, 0, 0, 0, 0, 0, 0, 0, 0, 0],
-        13 => [5, 0, 0, 0, 0, 0, 0, 0, 0, 0, 0, 0, 0, 0],
-        14 => [79, 0, 0, 0, 0, 0, 0, 0, 0, 0, 0, 0, 0, 0],
-        16 => [17, 13, 79, 0, 0, 0, 0, 0, 0, 0, 0, 0, 0, 0],
-        18 => [13, 79, 114, 0, 0, 0, 0, 0, 0, 0, 0, 0, 0, 0],
-        19 => [79, 0, 0, 0, 0, 0, 0, 0, 0, 0, 0, 0, 0, 0],
-        20 => [21, 0, 0, 0, 0, 0, 0, 0, 0, 0, 0, 0, 0, 0],
-        22 => [114, 0, 0, 0, 0, 0, 0, 0, 0, 0, 0, 0, 0, 0],
-        23 => [3, 2, 114, 0, 0, 0, 0, 0, 0, 0, 0, 0, 0, 0],
-        25 => [79, 90, 0, 0, 0, 0, 0, 0, 0, 0, 0, 0, 0, 0],
-        30 => [50, 0, 0, 0, 0, 0, 0, 0, 0, 0, 0, 0, 0, 0],
-        31 => [114, 114, 5, 0, 0, 0, 0, 0, 0, 0, 0, 0, 0, 0],
-        32 => [114, 5, 0, 0, 0, 0, 0, 0, 0, 0, 0, 0, 0, 0],
-        33 => [50, 0, 0, 0, 0, 0, 0, 0, 0, 0, 0, 0, 0, 0],
+        2 => three_groups(ONE_EXPRESSION, 4, 5),
+        3 => three_groups(ONE_EXPRESSION, 4, 5),
+        5 => one_group(PARTS),
+        8 => four_groups(11, 3, 10, 9),
+        9 => one_group(REFERENCES),
+        10 => two_groups(ONE_REFERENCE, ONE_REFERENCE),
+        11 => one_group(5),
+        12 => three_groups(AT_MOST_ONE_NODE, 3, 9),
+        13 => one_group(5),
+        14 => one_group(ONE_SOURCE),
+        16 => three_groups(17, 13, ONE_SOURCE),
+        18 => three_groups(13, ONE_SOURCE, ONE_EXPRESSION),
+        19 => one_group(ONE_SOURCE),
+        20 => one_group(21),
+        22 => one_group(ONE_EXPRESSION),
+        23 => three_groups(3, 2, ONE_EXPRESSION),
+        25 => two_groups(ONE_SOURCE, ONE_NAME),
+        30 => one_group(EXPRESSIONS),
+        31 => three_groups(ONE_EXPRESSION, ONE_EXPRESSION, 5),
+        32 => two_groups(ONE_EXPRESSION, 5),
+        33 => one_group(EXPRESSIONS),
         34 => slots(value),
-        35 => [114, 0, 0, 0, 0, 0, 0, 0, 0, 0, 0, 0, 0, 0],
-        37 => [38, 0, 0, 0, 0, 0, 0, 0, 0, 0, 0, 0, 0, 0],
-        _ => [0, 0, 0, 0, 0, 0, 0, 0, 0, 0, 0, 0, 0, 0],
+        35 => one_group(ONE_EXPRESSION),
+        37 => one_group(38),
+        _ => one_group(0),
     }
 }
 
