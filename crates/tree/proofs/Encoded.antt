@@ -14,7 +14,7 @@ use Rattle.basics.specs.Basics.{if_then_else_}
 use Rattle.characters.specs.Places.{cut}
 use Rattle.tree.specs.Records.{Row, Branch, branch, Branches, []ᴮ, _∷ᴮ_, count, Node, nodes, nodesAll, Record, placeOf, recordOf, recordsFrom, words, textsOf, records, texts}
 use Rattle.tree.specs.OneTree.{isKind, hasText, valuesFit, childrenFit, textFits, recordFits, kindOf, inOrder, rowOf, only, buildFrom, recordsIn, buildBy, rooted, build}
-use Rattle.tree.proofs.Back.{over}
+use Rattle.tree.proofs.Back.{before, over}
 
 -- ------------------------------------------------------------------ a stack of branches
 
@@ -32,11 +32,6 @@ stacked-length : (bs : Branches) (stack : List Branch) → length (stacked bs st
 unfolding stacked count
 stacked-length []ᴮ stack = omega arith
 stacked-length (b ∷ᴮ bs) stack = let h = stacked-length bs (b ∷ stack) in omega arith
-
--- the branches cs after bs
-unfoldable before : Branches → Branches → Branches
-before []ᴮ cs = cs
-before (b ∷ᴮ bs) cs = b ∷ᴮ before bs cs
 
 stacked-order : (bs : Branches) (stack : List Branch) (cs : Branches) → inOrder (stacked bs stack) cs ≡ inOrder stack (before bs cs)
 unfolding stacked inOrder before

@@ -2,7 +2,7 @@
 // Whether words and texts are one tree, and whether two trees are structurally equal. Nothing is copied, there is no stack and no
 // recursion: a branch is passed by counting back over its records.
 ghost use mathlib.Core.Path.{_≡_};
-ghost use Prim.Native.Nat.{ℕ, _+_, _*_, _≤_, _<_};
+ghost use Prim.Native.Nat.{_+_, _-_, _*_, _≤_, _<_};
 ghost use mathlib.Core.List.{[], _∷_, reverse};
 ghost use lib.ListN.{length, take};
 ghost use lib.Dec.{eqb};
@@ -272,6 +272,14 @@ pub fn first(records: &[u32], end: usize, n: usize) -> usize
         need = need - 1 + wide(word(records, i, CHILDREN));
     }
     i
+}
+
+// Where the child k of the record i ends, its own record the last before that; children count from 0.
+pub fn child(records: &[u32], i: usize, k: usize) -> usize
+    requires { ⌜ (i < countOf (now records)) × (k < wordAt (now records) i 6) ⌝ }
+    ensures { λ r. ⌜ r ≡ firstOf (now (records .entry)) i (wordAt (now (records .entry)) i 6 - (k + 1)) ⌝ }
+{
+    first(records, i, wide(word(records, i, CHILDREN)) - (k + 1))
 }
 
 // The kind of the last branch that ends before the record `end`, or 0.
