@@ -2,8 +2,16 @@
 //!
 //! - `held tree expression` or `held tree grammar`: `words|texts`. `1` for one tree, else `0`.
 //! - `held compare`: `words|texts|words|texts`. `E 0` or `E 1`, or `R 25 0 1 0`.
-//! - `held deep`: reads nothing; answers and times for deep and wide trees.
+//! - `held times`: reads nothing; answers and times for deep and wide trees, and beside the Rust's `structurally_eq`.
 
+mod error;
+mod node;
+mod parse;
+mod records;
+
+// parse.rs asks for it at the crate's root.
+pub use error::GeneratorError;
+use std::hint::black_box;
 use std::io::{self, BufRead, BufWriter, Write};
 use std::time::Instant;
 
@@ -100,7 +108,46 @@ fn timed(what: &str, tree: &Stored) {
     assert!(one && answer == "E 1");
 }
 
-fn deep() {
+/// The shortest of 50 rounds of 10 calls, in microseconds for each call.
+fn least(mut call: impl FnMut() -> bool) -> f64 {
+    (0..50)
+        .map(|_| {
+            let begun = Instant::now();
+            for _ in 0..10 {
+                assert!(black_box(call()));
+            }
+            begun.elapsed().as_secs_f64() * 1e5
+        })
+        .fold(f64::MAX, f64::min)
+}
+
+/// The body of a top rule that has `times` this expression, compared with its like.
+fn beside(what: &str, expression: &str, times: usize) {
+    let body = |between: &str| {
+        let source = format!("@top T{{{}}}", vec![expression; times].join(between));
+        let grammar = parse::parse_grammar(&source, None).expect("a grammar");
+        grammar.top_rules[0].expression.clone()
+    };
+    let (left, right) = (body(" "), body("  "));
+    let (lefts, rights) = (records::of_expression(&left), records::of_expression(&right));
+    let rust = least(|| black_box(&left).structurally_eq(black_box(&right)));
+    let ours = least(|| unsafe {
+        tree_structurally_eq(&lefts.words, &lefts.texts, &rights.words, &rights.texts) == 1
+    });
+    let test = least(|| unsafe { tree_is_expression(&lefts.words, &lefts.texts) });
+    println!(
+        "{what}: {} records, ours {ours:.1} µs, of which the tests of one tree take {:.1}; Rust's {rust:.1} µs; ratio {:.2}",
+        lefts.words.len() / 7,
+        2.0 * test,
+        ours / rust
+    );
+}
+
+fn times() {
+    beside("6,000 names", "name", 6_000);
+    beside("3,000 strings", "\"a string\"", 3_000);
+    beside("1,000 choices of sets and repeats", "($[a-z0-9] | b* ~m c | \"d\"+)", 1_000);
+    beside("1,000 inline rules with props", "n[p=q,@r=\"s\"]{a b}", 1_000);
     timed("a million stacked repeats", &repeats(1_000_000));
     timed("a choice of a million arms", &arms(1_000_000));
     timed("10,000 choices, the inner one first", &choices(10_000, false));
@@ -117,12 +164,12 @@ fn main() -> io::Result<()> {
         ["tree", "expression"] => |t| u8::from(unsafe { tree_is_expression(&t[0].0, &t[0].1) }).to_string(),
         ["tree", "grammar"] => |t| u8::from(unsafe { tree_is_grammar(&t[0].0, &t[0].1) }).to_string(),
         ["compare"] => |t| compared(&t[0], &t[1]),
-        ["deep"] => {
-            deep();
+        ["times"] => {
+            times();
             return Ok(());
         }
         _ => {
-            eprintln!("usage: held [tree expression | tree grammar | compare | deep]");
+            eprintln!("usage: held [tree expression | tree grammar | compare | times]");
             std::process::exit(2);
         }
     };
