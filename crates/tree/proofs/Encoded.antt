@@ -58,7 +58,7 @@ module _ (bs : Branches) (stack : List Branch) where
   dropped = rw (stacked-append bs [] stack, whole) (drop-append-seam (stacked bs []) stack)
 
   -- a record over the branches bs
-  over-stacked : (r : Row) → over r (count bs) (stacked bs stack) ≡ branch r bs ∷ stack
+  pub over-stacked : (r : Row) → over r (count bs) (stacked bs stack) ≡ branch r bs ∷ stack
   over-stacked r = rw (taken, dropped, in-order bs)
 
 -- ------------------------------------------------------------------ branches that fit
@@ -132,7 +132,7 @@ unfolding textsOf
 texts-append [] ys = refl
 texts-append (x ∷ xs) ys = rw (texts-append xs ys) (sym (append-assoc (x .row .text) (textsOf xs) (textsOf ys)))
 
-abbrev node : Row → Branches → Node
+abbrev pub node : Row → Branches → Node
 node r bs = record { row = r; children = count bs }
 
 module _ (ts : List ℕ) where
