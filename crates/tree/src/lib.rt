@@ -12,7 +12,7 @@ ghost use Rattle.characters.specs.Promise.{written, flat};
 ghost use Rattle.tree.specs.Records.{width, wordsOf};
 ghost use Rattle.tree.specs.CharClasses.{ranges, classValue};
 ghost use Rattle.tree.specs.Stored.{repeatValue, specializeValue, markerNumber, precValue};
-ghost use Rattle.tree.specs.OneTree.{isKind, isExpression, hasText, valuesFit, groupsOf, textFits, begins as beginsD, childrenFit, recordFits, build};
+ghost use Rattle.tree.specs.OneTree.{isKind, isExpression, hasText, valuesFit, groupsOf, textFits, begins as beginsWith, childrenFit, recordFits, build};
 ghost use Rattle.tree.specs.Promise.{classOf, repeatOf, specializeOf, markerOf, precOf, recordOf, countOf, wordAt, recordAt, nodeAt, firstOf, kindBefore, kindsBack, kindsOf, groupsIn, rootOf, isSome, sameNode, comparison};
 
 // How many words a record has, and which is which.
@@ -30,8 +30,8 @@ const SECOND: usize = 5;
 
 const CHILDREN: usize = 6;
 
-// The kinds of a group of children: one kind, by its number, or one of these lists. As many children of them as there are, or 64 more for
-// just one, or 128 more for at most one.
+// A group of children is a number: that of their kind, or of one of these lists of kinds, for as many children as there are; so much more
+// for just one child, or for at most one.
 const EXPRESSIONS: u32 = 50;
 
 const SLOTS: u32 = 51;
@@ -39,6 +39,10 @@ const SLOTS: u32 = 51;
 const REFERENCES: u32 = 52;
 
 const PARTS: u32 = 53;
+
+const ONE: u32 = 64;
+
+const AT_MOST_ONE: u32 = 128;
 
 const ONE_EXPRESSION: u32 = 114;
 
@@ -519,7 +523,7 @@ fn sibling(records: &[u32], end: usize, left: usize) -> usize
 // Some branches are left, and the last of them is of one of the kinds that a number stands for.
 fn begins(records: &[u32], kinds: u32, end: usize, left: usize) -> bool
     requires { ⌜ end ≤ countOf (now records) ⌝ }
-    ensures { λ r. ⌜ r ≡ beginsD (kindsOf kinds) (kindsBack (now (records .entry)) end left) ⌝ }
+    ensures { λ r. ⌜ r ≡ beginsWith (kindsOf kinds) (kindsBack (now (records .entry)) end left) ⌝ }
 {
     if left == 0 {
         return false;
@@ -541,21 +545,21 @@ fn children_fit(records: &[u32], kind: u32, value: u32, n: usize, end: usize) ->
         if group == 0 {
             return left == 0;
         }
-        if group < 64 {
+        if group < ONE {
             if begins(records, group, j, left) {
                 left -= 1;
                 j = sibling(records, j, left);
             } else {
                 g += 1;
             }
-        } else if group < 128 {
-            if !begins(records, group - 64, j, left) {
+        } else if group < AT_MOST_ONE {
+            if !begins(records, group - ONE, j, left) {
                 return false;
             }
             left -= 1;
             j = sibling(records, j, left);
             g += 1;
-        } else if begins(records, group - 128, j, left) {
+        } else if begins(records, group - AT_MOST_ONE, j, left) {
             left -= 1;
             j = sibling(records, j, left);
             g += 1;
