@@ -117,6 +117,24 @@ module _ (ws ts : List ℕ) where
   unfolding kindBefore
   kind-last (branch r bs) lo a = rw (past-root lo r bs) (ap (λ (x : Node). x .row .kind) (root-at lo r bs a .is))
 
+-- the branches cs after bs
+unfoldable pub before : Branches → Branches → Branches
+before []ᴮ cs = cs
+before (b ∷ᴮ bs) cs = b ∷ᴮ before bs cs
+
+nodes-before : (bs cs : Branches) → nodesAll (before bs cs) ≡ nodesAll bs ++ nodesAll cs
+unfolding before nodes
+nodes-before []ᴮ cs = refl
+nodes-before (b ∷ᴮ bs) cs = rw (nodes-before bs cs) (sym (append-assoc (nodes b) (nodesAll bs) (nodesAll cs)))
+
+-- among children, those before the last ones end where these begin
+pub first-last : (ws ts : List ℕ) (bs cs : Branches) (lo : ℕ) → All ws ts lo (nodesAll (before bs cs)) → firstOf ws (lo + length (nodesAll (before bs cs))) (count cs) ≡ lo + length (nodesAll bs)
+first-last ws ts bs cs lo a =
+    let e : lo + length (nodesAll (before bs cs)) ≡ lo + length (nodesAll bs) + length (nodesAll cs) = omega (arith, ap length (nodes-before bs cs), length-append (nodesAll bs) (nodesAll cs)) in
+    let n : count cs ≡ count cs + 0 = omega arith in
+    let r : All ws ts (lo + length (nodesAll bs)) (nodesAll cs) = all-right ws ts lo (nodesAll bs) (nodesAll cs) (rw (nodes-before bs cs) at a) in
+    rw (e, n) (first-branches ws ts cs (lo + length (nodesAll bs)) 0 r) ∙ first-none ws (lo + length (nodesAll bs))
+
 pub nodes-some : (b : Branch) → 0 < length (nodes b)
 unfolding nodes
 nodes-some (branch r bs) = omega (arith, length-append (nodesAll bs) (record { row = r; children = count bs } ∷ []))

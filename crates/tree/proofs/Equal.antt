@@ -149,7 +149,7 @@ pub record Tree (root : ℕ → Bool) (ws ts : List ℕ) : Type 0 where
   pub all : All ws ts 0 (nodes top)
   pub whole : length ws ≡ length (nodes top) * 7
 
-rooted-some : (root : ℕ → Bool) (o : Option Branch) (b : Branch) → rooted root o ≡ some b → o ≡ some b
+pub rooted-some : (root : ℕ → Bool) (o : Option Branch) (b : Branch) → rooted root o ≡ some b → o ≡ some b
 rooted-some root none b e = e
 rooted-some root (some c) b e = cases (root (kindOf c)) (λ t. rw t at e) (λ t. absurd (let f : none ≡ some b = rw t at e in let z : _≡_ {A = ℕ} 0 1 = cc in omega arith))
 

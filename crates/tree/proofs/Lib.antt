@@ -3,3 +3,10 @@ pub mod Back
 pub mod Matching
 pub mod Trees
 pub mod Equal
+pub mod Stores
+pub mod Encoded
+pub mod Decoded
+pub mod Known
+pub mod Upto
+pub mod ExpressionsFit
+pub mod GrammarsFit

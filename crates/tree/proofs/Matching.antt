@@ -59,17 +59,17 @@ rest ws i j (suc (suc n)) h e =
 -- ------------------------------------------------------------------ the first group
 
 module _ (ks : List ℕ) (gs : List Group) where
-  many-yes : (cs : List ℕ) → begins ks cs ≡ true → matches (many ks ∷ gs) cs ≡ matches (many ks ∷ gs) (drop 1 cs)
+  pub many-yes : (cs : List ℕ) → begins ks cs ≡ true → matches (many ks ∷ gs) cs ≡ matches (many ks ∷ gs) (drop 1 cs)
   unfolding matches without
   many-yes [] e = absurd (let z : _≡_ {A = ℕ} 0 1 = cc in omega arith)
   many-yes (c ∷ cs) e = rw (e, without)
 
-  many-no : (cs : List ℕ) → begins ks cs ≡ false → matches (many ks ∷ gs) cs ≡ matches gs cs
+  pub many-no : (cs : List ℕ) → begins ks cs ≡ false → matches (many ks ∷ gs) cs ≡ matches gs cs
   unfolding matches without
   many-no [] e = refl
   many-no (c ∷ cs) e = rw (e, without)
 
-  one-yes : (cs : List ℕ) → begins ks cs ≡ true → matches (one ks ∷ gs) cs ≡ matches gs (drop 1 cs)
+  pub one-yes : (cs : List ℕ) → begins ks cs ≡ true → matches (one ks ∷ gs) cs ≡ matches gs (drop 1 cs)
   unfolding matches
   one-yes cs e = rw e
 
@@ -77,11 +77,11 @@ module _ (ks : List ℕ) (gs : List Group) where
   unfolding matches
   one-no cs e = rw e
 
-  most-yes : (cs : List ℕ) → begins ks cs ≡ true → matches (atMostOne ks ∷ gs) cs ≡ matches gs (drop 1 cs)
+  pub most-yes : (cs : List ℕ) → begins ks cs ≡ true → matches (atMostOne ks ∷ gs) cs ≡ matches gs (drop 1 cs)
   unfolding matches
   most-yes cs e = rw e
 
-  most-no : (cs : List ℕ) → begins ks cs ≡ false → matches (atMostOne ks ∷ gs) cs ≡ matches gs cs
+  pub most-no : (cs : List ℕ) → begins ks cs ≡ false → matches (atMostOne ks ∷ gs) cs ≡ matches gs cs
   unfolding matches
   most-no cs e = rw e
 

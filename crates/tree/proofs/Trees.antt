@@ -192,11 +192,11 @@ module _ (ws ts : List ℕ) where
 
 -- ------------------------------------------------------------------ the nodes of the tree stand in the words
 
-none-some : {b : Branch} {A : Type 0} → none ≡ some b → A
+pub none-some : {b : Branch} {A : Type 0} → none ≡ some b → A
 none-some e = absurd (let z : _≡_ {A = ℕ} 0 1 = cc in omega arith)
 
 module _ (ws ts : List ℕ) (b : Branch) where
-  whole-of : (l : List Branch) → only l ≡ some b → l ≡ b ∷ []
+  pub whole-of : (l : List Branch) → only l ≡ some b → l ≡ b ∷ []
   whole-of [] e = none-some e
   whole-of (c ∷ []) e = cc
   whole-of (c ∷ d ∷ l) e = none-some e

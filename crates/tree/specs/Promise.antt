@@ -7,15 +7,69 @@ use mathlib.Core.Option.{Option, none, some}
 use lib.Dec.{eqb, leb, ltb}
 use lib.ListN.{length, getD}
 use Rattle.basics.specs.Basics.{if_then_else_}
+use Rattle.tree.specs.Syntax.{CharClass, asciiLetter, asciiLowercase, asciiUppercase, digit, whitespace, eof, RepeatKind, optional, zeroOrMore, oneOrMore, SpecializeKind, extend, specialize, ConflictMarkerKind, ambiguity, precedence, PrecKind, left, right, cut}
 use Rattle.tree.specs.Records.{Branch, Node, Record, width}
 use Rattle.tree.specs.OneTree.{expressionKinds, isExpression, Group, many, one, atMostOne, rowOf}
 use Rattle.tree.specs.Equality.{sameRow, structurallyEq}
+use Rattle.tree.specs.declared.CharClass.{CharClass as DeclaredClass}
+use Rattle.tree.specs.declared.CharClass.the-variants as CharClasss
+use Rattle.tree.specs.declared.RepeatKind.{RepeatKind as DeclaredRepeat}
+use Rattle.tree.specs.declared.RepeatKind.the-variants as RepeatKinds
+use Rattle.tree.specs.declared.SpecializeKind.{SpecializeKind as DeclaredSpecialize}
+use Rattle.tree.specs.declared.SpecializeKind.the-variants as SpecializeKinds
+use Rattle.tree.specs.declared.ConflictMarkerKind.{ConflictMarkerKind as DeclaredMarker}
+use Rattle.tree.specs.declared.ConflictMarkerKind.the-variants as ConflictMarkerKinds
+use Rattle.tree.specs.declared.PrecKind.{PrecKind as DeclaredPrec}
+use Rattle.tree.specs.declared.PrecKind.the-variants as PrecKinds
+use Rattle.tree.specs.declared.Record as declared
 use Rattle.tree.specs.declared.Root.{Root}
 use Rattle.tree.specs.declared.Root.the-variants as Root
 use Rattle.tree.specs.declared.Comparison.{Comparison}
 use Rattle.tree.specs.declared.Comparison.the-variants as Comparison
 
+-- ------------------------------------------------------------------ kinds
+
+abbrev pub classOf : DeclaredClass → CharClass
+classOf CharClasss.AsciiLetter = asciiLetter
+classOf CharClasss.AsciiLowercase = asciiLowercase
+classOf CharClasss.AsciiUppercase = asciiUppercase
+classOf CharClasss.Digit = digit
+classOf CharClasss.Whitespace = whitespace
+classOf CharClasss.Eof = eof
+
+abbrev pub repeatOf : DeclaredRepeat → RepeatKind
+repeatOf RepeatKinds.Optional = optional
+repeatOf RepeatKinds.ZeroOrMore = zeroOrMore
+repeatOf RepeatKinds.OneOrMore = oneOrMore
+
+abbrev pub specializeOf : DeclaredSpecialize → SpecializeKind
+specializeOf SpecializeKinds.Extend = extend
+specializeOf SpecializeKinds.Specialize = specialize
+
+abbrev pub markerOf : DeclaredMarker → ConflictMarkerKind
+markerOf ConflictMarkerKinds.Ambiguity = ambiguity
+markerOf ConflictMarkerKinds.Precedence = precedence
+
+abbrev pub precOf : DeclaredPrec → Option PrecKind
+precOf PrecKinds.Missing = none
+precOf PrecKinds.Left = some left
+precOf PrecKinds.Right = some right
+precOf PrecKinds.Cut = some cut
+
 -- ------------------------------------------------------------------ records in words
+
+-- a record of the code as one of the definition
+abbrev pub recordOf : declared.Record → Record
+recordOf r =
+    record {
+      kind = r .kind;
+      start = r .start;
+      place = r .place;
+      size = r .size;
+      value = r .value;
+      second = r .second;
+      children = r .children;
+    }
 
 -- how many records the words have
 abbrev pub countOf : List ℕ → ℕ

@@ -2,15 +2,18 @@
 // Whether words and texts are one tree, and whether two trees are structurally equal. Nothing is copied, there is no stack and no
 // recursion: a branch is passed by counting back over its records.
 ghost use mathlib.Core.Path.{_≡_};
-ghost use Prim.Native.Nat.{ℕ, _+_, _*_, _≤_, _<_};
-ghost use mathlib.Core.List.{reverse};
-ghost use lib.ListN.{length};
+ghost use Prim.Native.Nat.{_+_, _-_, _*_, _≤_, _<_};
+ghost use mathlib.Core.List.{[], _∷_, reverse};
+ghost use lib.ListN.{length, take};
 ghost use lib.Dec.{eqb};
 ghost use mathlib.Core.Bool.{_||_};
 ghost use Rattle.basics.specs.Basics.{among, same, within};
-ghost use Rattle.tree.specs.Records.{width};
-ghost use Rattle.tree.specs.OneTree.{isKind, isExpression, hasText, valuesFit, groupsOf, textFits, begins as beginsD, childrenFit, recordFits, build};
-ghost use Rattle.tree.specs.Promise.{countOf, wordAt, recordAt, nodeAt, firstOf, kindBefore, kindsBack, kindsOf, groupsIn, rootOf, isSome, sameNode, comparison};
+ghost use Rattle.characters.specs.Promise.{written, flat};
+ghost use Rattle.tree.specs.Records.{width, wordsOf};
+ghost use Rattle.tree.specs.CharClasses.{ranges, classValue};
+ghost use Rattle.tree.specs.Stored.{repeatValue, specializeValue, markerNumber, precValue};
+ghost use Rattle.tree.specs.OneTree.{isKind, isExpression, hasText, valuesFit, groupsOf, textFits, begins as beginsWith, childrenFit, recordFits, build};
+ghost use Rattle.tree.specs.Promise.{classOf, repeatOf, specializeOf, markerOf, precOf, recordOf, countOf, wordAt, recordAt, nodeAt, firstOf, kindBefore, kindsBack, kindsOf, groupsIn, rootOf, isSome, sameNode, comparison};
 
 // How many words a record has, and which is which.
 const WIDTH: usize = 7;
@@ -27,6 +30,104 @@ const SECOND: usize = 5;
 
 const CHILDREN: usize = 6;
 
+// A group of children is a number: that of their kind, or of one of these lists of kinds, for as many children as there are; so much more
+// for just one child, or for at most one.
+const EXPRESSIONS: u32 = 50;
+
+const SLOTS: u32 = 51;
+
+const REFERENCES: u32 = 52;
+
+const PARTS: u32 = 53;
+
+const ONE: u32 = 64;
+
+const AT_MOST_ONE: u32 = 128;
+
+const ONE_EXPRESSION: u32 = 114;
+
+const ONE_REFERENCE: u32 = 116;
+
+const ONE_SOURCE: u32 = 79;
+
+const ONE_NAME: u32 = 90;
+
+const AT_MOST_ONE_NODE: u32 = 141;
+
+// The ends of the spans of class whitespace.
+const WHITESPACE: [u32; 20] = [
+    9,
+    14,
+    32,
+    33,
+    133,
+    134,
+    160,
+    161,
+    5760,
+    5761,
+    8192,
+    8203,
+    8232,
+    8234,
+    8239,
+    8240,
+    8287,
+    8288,
+    12288,
+    12289,
+];
+
+// `CharClass`, `RepeatKind`, `SpecializeKind`, `ConflictMarkerKind` and `PrecKind` of node.rs; the last with no kind as a case.
+pub enum CharClass {
+    AsciiLetter,
+    AsciiLowercase,
+    AsciiUppercase,
+    Digit,
+    Whitespace,
+    Eof,
+}
+
+pub enum RepeatKind {
+    Optional,
+    ZeroOrMore,
+    OneOrMore,
+}
+
+pub enum SpecializeKind {
+    Extend,
+    Specialize,
+}
+
+pub enum ConflictMarkerKind {
+    Ambiguity,
+    Precedence,
+}
+
+pub enum PrecKind {
+    Missing,
+    Left,
+    Right,
+    Cut,
+}
+
+// The ends of a class's spans: the first code and one past the last of each, `count` spans.
+pub struct Ranges {
+    pub ends: [u32; 20],
+    pub count: usize,
+}
+
+// The words of a record.
+pub struct Record {
+    pub kind: u32,
+    pub start: u32,
+    pub place: u32,
+    pub size: u32,
+    pub value: u32,
+    pub second: u32,
+    pub children: u32,
+}
+
 // What the root of a tree has to be.
 pub enum Root {
     Expression,
@@ -38,6 +139,104 @@ pub enum Comparison {
     Equal,
     Different,
     NotATree,
+}
+
+// One span, and two.
+fn one_range(first: u32, past: u32) -> Ranges
+    ensures { λ r. ⌜ (r .count ≡ 1) × (take 2 (r .ends) ≡ first ∷ past ∷ []) ⌝ }
+{
+    let mut ends = [0u32; 20];
+    ends[0] = first;
+    ends[1] = past;
+    Ranges { ends, count: 1 }
+}
+
+fn two_ranges(first: u32, past: u32, second: u32, end: u32) -> Ranges
+    ensures { λ r. ⌜ (r .count ≡ 2) × (take 4 (r .ends) ≡ first ∷ past ∷ second ∷ end ∷ []) ⌝ }
+{
+    let mut ends = [0u32; 20];
+    ends[0] = first;
+    ends[1] = past;
+    ends[2] = second;
+    ends[3] = end;
+    Ranges { ends, count: 2 }
+}
+
+// `CharClass::ranges`.
+pub fn char_class_ranges(class: CharClass) -> Ranges
+    ensures { λ r. ⌜ take (r .count * 2) (r .ends) ≡ flat (ranges (classOf class)) ⌝ }
+{
+    match class {
+        CharClass::AsciiLetter => two_ranges(65, 91, 97, 123),
+        CharClass::AsciiLowercase => one_range(97, 123),
+        CharClass::AsciiUppercase => one_range(65, 91),
+        CharClass::Digit => one_range(48, 58),
+        CharClass::Whitespace => Ranges {
+            ends: WHITESPACE,
+            count: 10,
+        },
+        CharClass::Eof => Ranges {
+            ends: WHITESPACE,
+            count: 0,
+        },
+    }
+}
+
+// The value of a class's record.
+pub fn class_value(class: CharClass) -> u32
+    ensures { λ r. ⌜ r ≡ classValue (classOf class) ⌝ }
+{
+    match class {
+        CharClass::AsciiLetter => 0,
+        CharClass::AsciiLowercase => 1,
+        CharClass::AsciiUppercase => 2,
+        CharClass::Digit => 3,
+        CharClass::Whitespace => 4,
+        CharClass::Eof => 5,
+    }
+}
+
+// The value of a repeat's record.
+pub fn repeat_value(kind: RepeatKind) -> u32
+    ensures { λ r. ⌜ r ≡ repeatValue (repeatOf kind) ⌝ }
+{
+    match kind {
+        RepeatKind::Optional => 0,
+        RepeatKind::ZeroOrMore => 1,
+        RepeatKind::OneOrMore => 2,
+    }
+}
+
+// The value of a specialize's record, and of an external specializer's.
+pub fn specialize_value(kind: SpecializeKind) -> u32
+    ensures { λ r. ⌜ r ≡ specializeValue (specializeOf kind) ⌝ }
+{
+    match kind {
+        SpecializeKind::Extend => 1,
+        SpecializeKind::Specialize => 2,
+    }
+}
+
+// The kind of a marker's record.
+pub fn marker_number(kind: ConflictMarkerKind) -> u32
+    ensures { λ r. ⌜ r ≡ markerNumber (markerOf kind) ⌝ }
+{
+    match kind {
+        ConflictMarkerKind::Ambiguity => 41,
+        ConflictMarkerKind::Precedence => 42,
+    }
+}
+
+// The value of a precedence item's record.
+pub fn prec_value(kind: PrecKind) -> u32
+    ensures { λ r. ⌜ r ≡ precValue (precOf kind) ⌝ }
+{
+    match kind {
+        PrecKind::Missing => 0,
+        PrecKind::Left => 1,
+        PrecKind::Right => 2,
+        PrecKind::Cut => 3,
+    }
 }
 
 fn wide(x: u32) -> usize
@@ -77,6 +276,14 @@ pub fn first(records: &[u32], end: usize, n: usize) -> usize
         need = need - 1 + wide(word(records, i, CHILDREN));
     }
     i
+}
+
+// Where the child k of the record i ends, its own record the last before that; children count from 0.
+pub fn child(records: &[u32], i: usize, k: usize) -> usize
+    requires { ⌜ (i < countOf (now records)) × (k < wordAt (now records) i 6) ⌝ }
+    ensures { λ r. ⌜ r ≡ firstOf (now (records .entry)) i (wordAt (now (records .entry)) i 6 - (k + 1)) ⌝ }
+{
+    first(records, i, wide(word(records, i, CHILDREN)) - (k + 1))
 }
 
 // The kind of the last branch that ends before the record `end`, or 0.
@@ -190,48 +397,72 @@ fn values_fit(kind: u32, value: u32, second: u32) -> bool
     }
 }
 
+// Groups of children, up to a 0.
+fn one_group(a: u32) -> [u32; 14]
+    ensures { λ r. ⌜ (length r ≡ 14) × (groupsIn r ≡ groupsIn (a ∷ [])) ⌝ }
+{
+    [a, 0, 0, 0, 0, 0, 0, 0, 0, 0, 0, 0, 0, 0]
+}
+
+fn two_groups(a: u32, b: u32) -> [u32; 14]
+    ensures { λ r. ⌜ (length r ≡ 14) × (groupsIn r ≡ groupsIn (a ∷ b ∷ [])) ⌝ }
+{
+    [a, b, 0, 0, 0, 0, 0, 0, 0, 0, 0, 0, 0, 0]
+}
+
+fn three_groups(a: u32, b: u32, c: u32) -> [u32; 14]
+    ensures { λ r. ⌜ (length r ≡ 14) × (groupsIn r ≡ groupsIn (a ∷ b ∷ c ∷ [])) ⌝ }
+{
+    [a, b, c, 0, 0, 0, 0, 0, 0, 0, 0, 0, 0, 0]
+}
+
+fn four_groups(a: u32, b: u32, c: u32, d: u32) -> [u32; 14]
+    ensures { λ r. ⌜ (length r ≡ 14) × (groupsIn r ≡ groupsIn (a ∷ b ∷ c ∷ d ∷ [])) ⌝ }
+{
+    [a, b, c, d, 0, 0, 0, 0, 0, 0, 0, 0, 0, 0]
+}
+
 // Those of a sequence: none where it is explicitly empty.
 fn slots(value: u32) -> [u32; 14]
     ensures { λ r. ⌜ (length r ≡ 14) × (groupsIn r ≡ reverse (groupsOf 34 value)) ⌝ }
 {
     match value {
-        0 => [51, 0, 0, 0, 0, 0, 0, 0, 0, 0, 0, 0, 0, 0],
-        _ => [0, 0, 0, 0, 0, 0, 0, 0, 0, 0, 0, 0, 0, 0],
+        0 => one_group(SLOTS),
+        _ => one_group(0),
     }
 }
 
-// The groups of children of a record, last first, up to a 0. A group is the number of its kind, or 50 for expressions, 51 for these and
-// markers, 52 for names and literals, 53 for parts; 64 more where it is just one child, 128 more where it is at most one.
+// The groups of children of a record, last first, up to a 0.
 fn groups(kind: u32, value: u32) -> [u32; 14]
     ensures { λ r. ⌜ (length r ≡ 14) × (groupsIn r ≡ reverse (groupsOf kind value)) ⌝ }
 {
     match kind {
         1 => [25, 24, 23, 22, 20, 19, 18, 16, 14, 12, 8, 3, 2, 0],
-        2 => [114, 4, 5, 0, 0, 0, 0, 0, 0, 0, 0, 0, 0, 0],
-        3 => [114, 4, 5, 0, 0, 0, 0, 0, 0, 0, 0, 0, 0, 0],
-        5 => [53, 0, 0, 0, 0, 0, 0, 0, 0, 0, 0, 0, 0, 0],
-        8 => [11, 3, 10, 9, 0, 0, 0, 0, 0, 0, 0, 0, 0, 0],
-        9 => [52, 0, 0, 0, 0, 0, 0, 0, 0, 0, 0, 0, 0, 0],
-        10 => [116, 116, 0, 0, 0, 0, 0, 0, 0, 0, 0, 0, 0, 0],
-        11 => [5, 0, 0, 0, 0, 0, 0, 0, 0, 0, 0, 0, 0, 0],
-        12 => [141, 3, 9, 0, 0, 0, 0, 0, 0, 0, 0, 0, 0, 0],
-        13 => [5, 0, 0, 0, 0, 0, 0, 0, 0, 0, 0, 0, 0, 0],
-        14 => [79, 0, 0, 0, 0, 0, 0, 0, 0, 0, 0, 0, 0, 0],
-        16 => [17, 13, 79, 0, 0, 0, 0, 0, 0, 0, 0, 0, 0, 0],
-        18 => [13, 79, 114, 0, 0, 0, 0, 0, 0, 0, 0, 0, 0, 0],
-        19 => [79, 0, 0, 0, 0, 0, 0, 0, 0, 0, 0, 0, 0, 0],
-        20 => [21, 0, 0, 0, 0, 0, 0, 0, 0, 0, 0, 0, 0, 0],
-        22 => [114, 0, 0, 0, 0, 0, 0, 0, 0, 0, 0, 0, 0, 0],
-        23 => [3, 2, 114, 0, 0, 0, 0, 0, 0, 0, 0, 0, 0, 0],
-        25 => [79, 90, 0, 0, 0, 0, 0, 0, 0, 0, 0, 0, 0, 0],
-        30 => [50, 0, 0, 0, 0, 0, 0, 0, 0, 0, 0, 0, 0, 0],
-        31 => [114, 114, 5, 0, 0, 0, 0, 0, 0, 0, 0, 0, 0, 0],
-        32 => [114, 5, 0, 0, 0, 0, 0, 0, 0, 0, 0, 0, 0, 0],
-        33 => [50, 0, 0, 0, 0, 0, 0, 0, 0, 0, 0, 0, 0, 0],
+        2 => three_groups(ONE_EXPRESSION, 4, 5),
+        3 => three_groups(ONE_EXPRESSION, 4, 5),
+        5 => one_group(PARTS),
+        8 => four_groups(11, 3, 10, 9),
+        9 => one_group(REFERENCES),
+        10 => two_groups(ONE_REFERENCE, ONE_REFERENCE),
+        11 => one_group(5),
+        12 => three_groups(AT_MOST_ONE_NODE, 3, 9),
+        13 => one_group(5),
+        14 => one_group(ONE_SOURCE),
+        16 => three_groups(17, 13, ONE_SOURCE),
+        18 => three_groups(13, ONE_SOURCE, ONE_EXPRESSION),
+        19 => one_group(ONE_SOURCE),
+        20 => one_group(21),
+        22 => one_group(ONE_EXPRESSION),
+        23 => three_groups(3, 2, ONE_EXPRESSION),
+        25 => two_groups(ONE_SOURCE, ONE_NAME),
+        30 => one_group(EXPRESSIONS),
+        31 => three_groups(ONE_EXPRESSION, ONE_EXPRESSION, 5),
+        32 => two_groups(ONE_EXPRESSION, 5),
+        33 => one_group(EXPRESSIONS),
         34 => slots(value),
-        35 => [114, 0, 0, 0, 0, 0, 0, 0, 0, 0, 0, 0, 0, 0],
-        37 => [38, 0, 0, 0, 0, 0, 0, 0, 0, 0, 0, 0, 0, 0],
-        _ => [0, 0, 0, 0, 0, 0, 0, 0, 0, 0, 0, 0, 0, 0],
+        35 => one_group(ONE_EXPRESSION),
+        37 => one_group(38),
+        _ => one_group(0),
     }
 }
 
@@ -278,7 +509,7 @@ fn is_part(k: u32) -> bool
     }
 }
 
-// Where the branch before the last begins and ends: asked for only where there is one, since this counts back over the last.
+// Where the last branch begins and the one before it ends, where some are `left`. Otherwise nobody asks, and the count back is spared.
 fn sibling(records: &[u32], end: usize, left: usize) -> usize
     requires { ⌜ end ≤ countOf (now records) ⌝ }
     ensures { λ r. ⌜ (r ≤ countOf (now (records .entry))) × (0 < left → r ≡ firstOf (now (records .entry)) end 1) ⌝ }
@@ -292,7 +523,7 @@ fn sibling(records: &[u32], end: usize, left: usize) -> usize
 // Some branches are left, and the last of them is of one of the kinds that a number stands for.
 fn begins(records: &[u32], kinds: u32, end: usize, left: usize) -> bool
     requires { ⌜ end ≤ countOf (now records) ⌝ }
-    ensures { λ r. ⌜ r ≡ beginsD (kindsOf kinds) (kindsBack (now (records .entry)) end left) ⌝ }
+    ensures { λ r. ⌜ r ≡ beginsWith (kindsOf kinds) (kindsBack (now (records .entry)) end left) ⌝ }
 {
     if left == 0 {
         return false;
@@ -314,21 +545,21 @@ fn children_fit(records: &[u32], kind: u32, value: u32, n: usize, end: usize) ->
         if group == 0 {
             return left == 0;
         }
-        if group < 64 {
+        if group < ONE {
             if begins(records, group, j, left) {
                 left -= 1;
                 j = sibling(records, j, left);
             } else {
                 g += 1;
             }
-        } else if group < 128 {
-            if !begins(records, group - 64, j, left) {
+        } else if group < AT_MOST_ONE {
+            if !begins(records, group - ONE, j, left) {
                 return false;
             }
             left -= 1;
             j = sibling(records, j, left);
             g += 1;
-        } else if begins(records, group - 128, j, left) {
+        } else if begins(records, group - AT_MOST_ONE, j, left) {
             left -= 1;
             j = sibling(records, j, left);
             g += 1;
@@ -386,9 +617,8 @@ fn is_root(root: Root, k: u32) -> bool
     }
 }
 
-// The words and texts are one tree, with the root that is asked for. Each record is visited once, and once more for each sibling after
-// it of its own branch or of a branch it lies in: at most records times levels, and records alone where a branch is never followed by
-// a deep one, as in stacked repeats.
+// The words and texts are one tree, with the root that is asked for. Each record is visited once, and passed once more for each branch
+// it lies in that has a sibling before it: at most records times levels. Stacked repeats have no siblings, so they take one visit each.
 pub fn is_tree(root: Root, records: &[u32], texts: &[u8]) -> bool
     ensures { λ r. ⌜ r ≡ isSome (build (rootOf root) (now (records .entry)) (now (texts .entry))) ⌝ }
 {
@@ -505,4 +735,42 @@ pub fn structurally_eq(
         i += 1;
     }
     Comparison::Equal
+}
+
+// Stores a record at a place where it fits there, and says how many words it takes in any case.
+pub fn put(records: &mut [u32], at: usize, r: Record) -> usize
+    ensures { λ n. ⌜ (n ≡ width) × (now (records .exit) ≡ written (now (records .entry)) at (wordsOf (recordOf r))) ⌝ }
+{
+    if records.len() < at {
+        return WIDTH;
+    }
+    if records.len() - at < WIDTH {
+        return WIDTH;
+    }
+    records[at] = r.kind;
+    records[at + 1] = r.start;
+    records[at + 2] = r.place;
+    records[at + 3] = r.size;
+    records[at + 4] = r.value;
+    records[at + 5] = r.second;
+    records[at + 6] = r.children;
+    WIDTH
+}
+
+// Stores a text at a place where it fits there, and says how many bytes it takes in any case.
+pub fn put_text(texts: &mut [u8], at: usize, text: &[u8]) -> usize
+    ensures { λ n. ⌜ (n ≡ length (now (text .entry))) × (now (texts .exit) ≡ written (now (texts .entry)) at (now (text .entry))) ⌝ }
+{
+    if texts.len() < at {
+        return text.len();
+    }
+    if texts.len() - at < text.len() {
+        return text.len();
+    }
+    let mut i = 0;
+    while i < text.len() {
+        texts[at + i] = text[i];
+        i += 1;
+    }
+    text.len()
 }

@@ -1,6 +1,6 @@
 -- `tree::slots` meets its contract: by the value the definition computes. Assumes nothing.
 use borrow.Author.Tests.{ne-eqb}
-use mathlib.Core.Path.{refl}
+use borrow.Author.Needs.{needs}
 use Rattle.tree.specs.OneTree.{groupsOf}
 use Rattle.tree.specs.Promise.{groupsIn}
 use Rattle.tree.proofs.slots.Statement.{statement}
@@ -11,5 +11,7 @@ unfolding groupsOf groupsIn
 slots-spec =
     tie.close
     (tie.spec
-    (λ c. (refl, rw (c .match .keys1)))
-    (λ c. (refl, simp (ne-eqb _ _ (c .match .rest .1)))))
+    (λ c κs. search needs)
+    (λ c κs. search needs)
+    (λ c. rw (c .before .match .keys1) (c .one-group .ensures))
+    (λ c. simp (ne-eqb _ _ (c .before .match .rest .1)) (c .one-group2 .ensures)))
