@@ -180,7 +180,7 @@ pub fn at(token: Current) -> Part
 }
 
 // Whether there is a part, and it is this word. The bytes are compared in place.
-pub fn says(source: &[u8], part: Part, word: &[u8]) -> bool
+fn says(source: &[u8], part: Part, word: &[u8]) -> bool
     requires { ⌜ Whole (now source) part ⌝ }
     ensures { λ r. ⌜ Says (now (source .entry)) part (now (word .entry)) r ⌝ }
 {
@@ -191,7 +191,7 @@ pub fn says(source: &[u8], part: Part, word: &[u8]) -> bool
 }
 
 // The current token is taken if it is this name.
-pub fn eat_identifier_value(source: &[u8], token: Current, word: &[u8]) -> Eaten
+fn eat_identifier_value(source: &[u8], token: Current, word: &[u8]) -> Eaten
     requires { ⌜ Whole (now source) (nameOf token) ⌝ }
     ensures { λ r. ⌜ EatsName (now (source .entry)) token (now (word .entry)) r ⌝ }
 {
@@ -199,7 +199,7 @@ pub fn eat_identifier_value(source: &[u8], token: Current, word: &[u8]) -> Eaten
 }
 
 // The current token is taken if it is `@` and this word.
-pub fn eat_at(source: &[u8], token: Current, word: &[u8]) -> Eaten
+fn eat_at(source: &[u8], token: Current, word: &[u8]) -> Eaten
     requires { ⌜ Whole (now source) (atOf token) ⌝ }
     ensures { λ r. ⌜ EatsAt (now (source .entry)) token (now (word .entry)) r ⌝ }
 {
