@@ -1,1 +1,4 @@
 pub mod Back
+pub mod Writes
+pub mod Digits
+pub mod Bytes
