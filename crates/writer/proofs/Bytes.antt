@@ -1,19 +1,20 @@
--- Escaping the bytes of a text is escaping its characters: a byte of 0x80 or more is neither a quote nor a backslash.
+-- The bytes of tokens. Escaping the bytes of a text is escaping its characters: a byte of 0x80 or more is neither a quote nor a backslash.
 -- Assumes nothing.
 use mathlib.Core.Path.{_≡_, refl, sym, _∙_, ap}
 use mathlib.Core.Bool.{Bool, true, false, _||_}
 use mathlib.Core.List.{List, [], _∷_, _++_, append-assoc}
-use Prim.Native.Nat.{ℕ, suc, _+_, _*_, _/_, _%_, _≤_, _<_}
+use Prim.Native.Nat.{ℕ, _+_, _*_, _≤_, _<_}
 use native.Mathlib.Omega.{arith}
-use lib.ListN.{length, take, drop, getD, length-append}
+use lib.ListN.{length, take, drop, getD}
 use borrow.Author.Tests.{ne-eqb}
 use Rattle.basics.specs.Basics.{is}
 use Rattle.basics.proofs.Tests.{cases}
 use Rattle.characters.specs.Utf8.{encode, encodeAll}
-use Rattle.characters.proofs.Encode.{by-size}
+use Rattle.characters.specs.Spans.{Span}
+use Rattle.characters.proofs.Encode.{encode-1, by-size}
 use Rattle.lexer.specs.Tokens.{Kind}
-use Rattle.writer.specs.Spelling.{quoted, spell}
-use Rattle.writer.proofs.Back.{quoted-yes, quoted-no, by-special}
+use Rattle.writer.specs.Spelling.{quoted, spansText, opening, spell}
+use Rattle.writer.proofs.Back.{quoted-yes, quoted-no, by-special, Ascii, no-ascii, more-ascii, spans-ascii}
 use Rattle.writer.proofs.Writes.{take-next}
 
 -- ------------------------------------------------------------------ a string's text, part by part
@@ -76,3 +77,20 @@ string-bytes cs = ap (λ (l : List ℕ). 0x22 ∷ l) (encode-append (quoted cs) 
 pub string-parts : (t : List ℕ) → ((0x22 ∷ []) ++ t) ++ (0x22 ∷ []) ≡ spell (Kind.string t)
 unfolding spell
 string-parts t = refl
+
+-- ------------------------------------------------------------------ sets
+
+-- a text of ASCII characters is its bytes
+pub ascii-bytes : {cs : List ℕ} → Ascii cs → encodeAll cs ≡ cs
+unfolding encodeAll
+ascii-bytes no-ascii = refl
+ascii-bytes (more-ascii c {cs} h a) = rw (encode-1 c h, ascii-bytes a)
+
+-- and so is a set token
+pub set-bytes : (inverted : Bool) (ss : List Span) → encodeAll (spell (Kind.set inverted (spansText ss))) ≡ spell (Kind.set inverted (spansText ss))
+unfolding spell encode encodeAll
+set-bytes inverted ss = rw (encode-append (opening inverted ++ spansText ss) (0x5D ∷ []), encode-append (opening inverted) (spansText ss), ascii-bytes (spans-ascii ss)) (bracket inverted)
+  where
+    bracket : (i : Bool) → (encodeAll (opening i) ++ spansText ss) ++ (0x5D ∷ []) ≡ (opening i ++ spansText ss) ++ (0x5D ∷ [])
+    bracket false = refl
+    bracket true = refl

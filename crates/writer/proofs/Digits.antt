@@ -1,17 +1,13 @@
 -- The digits of a code one by one, from the highest, and how long the texts of codes are.
 -- Assumes nothing.
 use mathlib.Core.Path.{_≡_, refl, sym, _∙_, ap}
-use mathlib.Core.Bool.{true, false}
 use mathlib.Core.List.{List, [], _∷_, _++_, append-assoc}
 use Prim.Native.Nat.{ℕ, zero, suc, _+_, _*_, _/_, _%_, _≤_, _<_}
 use native.Mathlib.Omega.{arith}
 use native.Mathlib.Decide.{decLt, decLe}
 use native.Mathlib.Nat.{div-div-eq-div-mul}
-use lib.Dec.{leb}
-use lib.ListN.{length, length-append}
+use lib.ListN.{length}
 use borrow.Author.Tests.{le-leb, lt-leb}
-use Rattle.basics.specs.Basics.{if_then_else_, letters}
-use Rattle.basics.proofs.Tests.{cases}
 use Rattle.writer.specs.Spelling.{hexDigit, hexFrom, codeText}
 use Rattle.writer.specs.Promise.{digitAt}
 use Rattle.writer.proofs.Back.{hex-low, hex-high, hex-append}

@@ -2,3 +2,4 @@ pub mod Back
 pub mod Writes
 pub mod Digits
 pub mod Bytes
+pub mod Spaces

@@ -1,8 +1,8 @@
 -- Laws of what was added to an output: a byte, nothing, and one text after another.
 -- Assumes nothing.
 use mathlib.Core.Path.{_≡_, refl, sym, _∙_, ap}
-use mathlib.Core.List.{List, [], _∷_, _++_, append-assoc, append-nil}
-use Prim.Native.Nat.{ℕ, suc, _+_, _≤_, _<_}
+use mathlib.Core.List.{List, [], _∷_, _++_, append-assoc}
+use Prim.Native.Nat.{ℕ, _+_, _≤_, _<_}
 use native.Mathlib.Omega.{arith}
 use native.Mathlib.Numerals.{add-one}
 use lib.ListN.{length, take, drop, set, getD, length-append, length-set, length-drop, take-append-drop}
@@ -50,3 +50,24 @@ pub take-next : (i place : ℕ) (texts : List ℕ) → place + i < length texts
 take-next i place texts h =
     let l : i < length (drop place texts) = simp length-drop (omega arith) in
     rw add-one (take-suc (drop place texts) i 0 l ∙ rw getD-drop)
+
+-- a byte in the place of the last one
+pub adds-over : (t : List ℕ) (a b : ℕ) {old mid new : List ℕ} {n m : ℕ} → Adds (t ++ (a ∷ [])) old n mid (m + 1) → Adds (b ∷ []) mid m new (m + 1)
+    → Adds (t ++ (b ∷ [])) old n new (m + 1)
+adds-over t a b {old} {mid} {new} {n} {m} f g =
+    let c = f .counts in
+    let p = length-append t (a ∷ []) in
+    let q = length-append t (b ∷ []) in
+    record {
+      counts = omega arith;
+      same = g .same ∙ f .same;
+      holds = λ h.
+          let l : length (take n old) ≡ n = length-take-le n old (omega arith) in
+          let r = drop (m + 1) old in
+          let e : mid ≡ (take n old ++ t) ++ (a ∷ r) = f .holds h ∙ simp append-assoc in
+          let z : length (take n old ++ t) ≡ m = length-append (take n old) t ∙ omega arith in
+          let y : length ((take n old ++ t) ++ (a ∷ [])) ≡ m + 1 = length-append (take n old ++ t) (a ∷ []) ∙ omega arith in
+          let x : take m mid ≡ take n old ++ t = ap (take m) e ∙ take-at (take n old ++ t) (a ∷ r) m z in
+          let w : drop (m + 1) mid ≡ r = ap (drop (m + 1)) (e ∙ sym (append-assoc (take n old ++ t) (a ∷ []) r)) ∙ drop-at ((take n old ++ t) ++ (a ∷ [])) r (m + 1) y in
+          g .holds (omega (arith, f .same)) ∙ rw (x, w) (simp append-assoc);
+    }

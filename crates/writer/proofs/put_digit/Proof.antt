@@ -1,6 +1,4 @@
 -- `writer::put_digit` meets its contract. Assumes nothing.
-use mathlib.Core.Path.{sym}
-use mathlib.Core.List.{List, [], _∷_}
 use Rattle.writer.proofs.Digits.{digit-yes, digit-no}
 use Rattle.writer.proofs.Writes.{adds-none}
 use borrow.Author.Needs.{needs}

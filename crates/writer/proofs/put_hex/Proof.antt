@@ -1,5 +1,4 @@
 -- `writer::put_hex` meets its contract. Assumes nothing.
-use mathlib.Core.Path.{sym}
 use native.Mathlib.Omega.{arith}
 use Rattle.writer.proofs.Digits.{hex-digits, digit-small}
 use Rattle.writer.proofs.Writes.{adds-then}
