@@ -31,11 +31,11 @@ use Rattle.writer.specs.Spelling.{quoted, hexDigit, hexFrom, codeText, s
 special : ℕ → Bool
 special c = is "\"" c || is "\\" c
 
-quoted-yes : (c : ℕ) (cs : List ℕ) → (is "\"" c || is "\\" c) ≡ true → quoted (c ∷ cs) ≡ 0x5C ∷ c ∷ quoted cs
+pub quoted-yes : (c : ℕ) (cs : List ℕ) → (is "\"" c || is "\\" c) ≡ true → quoted (c ∷ cs) ≡ 0x5C ∷ c ∷ quoted cs
 unfolding quoted
 quoted-yes c cs e = rw (e, quoted)
 
-quoted-no : (c : ℕ) (cs : List ℕ) → (is "\"" c || is "\\" c) ≡ false → quoted (c ∷ cs) ≡ c ∷ quoted cs
+pub quoted-no : (c : ℕ) (cs : List ℕ) → (is "\"" c || is "\\" c) ≡ false → quoted (c ∷ cs) ≡ c ∷ quoted cs
 unfolding quoted
 quoted-no c cs e = rw (e, quoted)
 
@@ -44,7 +44,7 @@ or-false true b e = ((cc), (cc))
 or-false false b e = (refl, e)
 
 -- of the two characters that a backslash stands before
-by-special {ℓ} : (P : ℕ → Type ℓ) (c : ℕ) → (is "\"" c || is "\\" c) ≡ true → P 0x22 → P 0x5C → P c
+pub by-special {ℓ} : (P : ℕ → Type ℓ) (c : ℕ) → (is "\"" c || is "\\" c) ≡ true → P 0x22 → P 0x5C → P c
 by-special P c e p q =
     cases (is "\"" c) (λ f. subst P (sym (eqb-true c 0x22 f)) p) (λ f. subst P (sym (eqb-true c 0x5C (rw f at e))) q)
 
@@ -83,10 +83,10 @@ quoted-body (c ∷ cs) =
 
 -- ------------------------------------------------------------------ hexadecimal
 
-digit-low : (d : ℕ) → d < 10 → hexDigit d ≡ 0x30 + d
+pub digit-low : (d : ℕ) → d < 10 → hexDigit d ≡ 0x30 + d
 digit-low d l = rw (lt-ltb d 10 l)
 
-digit-high : (d : ℕ) → 10 ≤ d → hexDigit d ≡ 0x41 + (d - 10)
+pub digit-high : (d : ℕ) → 10 ≤ d → hexDigit d ≡ 0x41 + (d - 10)
 digit-high d l = rw (le-ltb d 10 l)
 
 -- a digit is read as its value, and is no brace, no bracket and no backslash
@@ -112,16 +112,16 @@ digit d h =
       }
     ]
 
-hex-low : (k n : ℕ) (rest : List ℕ) → n < 16 → hexFrom (suc k) n rest ≡ hexDigit n ∷ rest
+pub hex-low : (k n : ℕ) (rest : List ℕ) → n < 16 → hexFrom (suc k) n rest ≡ hexDigit n ∷ rest
 unfolding hexFrom
 hex-low k n rest h = rw (lt-ltb n 16 h, hexFrom)
 
-hex-high : (k n : ℕ) (rest : List ℕ) → 16 ≤ n → hexFrom (suc k) n rest ≡ hexFrom k (n / 16) (hexDigit (n % 16) ∷ rest)
+pub hex-high : (k n : ℕ) (rest : List ℕ) → 16 ≤ n → hexFrom (suc k) n rest ≡ hexFrom k (n / 16) (hexDigit (n % 16) ∷ rest)
 unfolding hexFrom
 hex-high k n rest h = rw (le-ltb n 16 h, hexFrom)
 
 -- what comes after the digits can be put there later
-hex-append : (k n : ℕ) (x y : List ℕ) → hexFrom k n x ++ y ≡ hexFrom k n (x ++ y)
+pub hex-append : (k n : ℕ) (x y : List ℕ) → hexFrom k n x ++ y ≡ hexFrom k n (x ++ y)
 unfolding hexFrom
 hex-append zero n x y = refl
 hex-append (suc k) n x y =

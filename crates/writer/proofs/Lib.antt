@@ -1,1 +1,5 @@
 pub mod Back
+pub mod Writes
+pub mod Digits
+pub mod Bytes
+pub mod Spaces

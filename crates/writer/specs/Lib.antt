@@ -1,3 +1,4 @@
 pub mod Spelling
 pub mod NormalText
+pub mod Promise
 pub mod Examples

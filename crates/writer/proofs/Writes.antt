@@ -1,0 +1,73 @@
+-- Laws of what was added to an output: a byte, nothing, and one text after another.
+-- Assumes nothing.
+use mathlib.Core.Path.{_≡_, refl, sym, _∙_, ap}
+use mathlib.Core.List.{List, [], _∷_, _++_, append-assoc}
+use Prim.Native.Nat.{ℕ, _+_, _≤_, _<_}
+use native.Mathlib.Omega.{arith}
+use native.Mathlib.Numerals.{add-one}
+use lib.ListN.{length, take, drop, set, getD, length-append, length-set, length-drop, take-append-drop}
+use lib.Seq.{length-take-le, set-split, take-at, drop-at, drop-drop, take-suc, getD-drop}
+use Rattle.writer.specs.Promise.{Adds, Wrote}
+
+pub adds-none : (old : List ℕ) (n : ℕ) → Adds [] old n old n
+adds-none old n = record { counts = omega arith; same = refl; holds = λ _. sym (take-append-drop n old) }
+
+module _ (b n : ℕ) (old : List ℕ) where
+  pub adds-in : n < length old → Adds (b ∷ []) old n (set old n b) (n + 1)
+  adds-in h = record { counts = refl; same = simp length-set; holds = λ _. rw add-one (set-split old n b h) }
+
+  pub adds-out : length old ≤ n → Adds (b ∷ []) old n old (n + 1)
+  adds-out h = record { counts = refl; same = refl; holds = λ g. absurd (omega arith) }
+
+-- one text after another
+module _ {s t old mid new : List ℕ} {n m k : ℕ} where
+  pub adds-then : Adds s old n mid m → Adds t mid m new k → Adds (s ++ t) old n new k
+  adds-then f g = record {
+    counts = omega (arith, length-append s t, f .counts, g .counts);
+    same = g .same ∙ f .same;
+    holds = λ h.
+        let c = f .counts in
+        let d = g .counts in
+        let l : length (take n old) ≡ n = length-take-le n old (omega arith) in
+        let p : mid ≡ (take n old ++ s) ++ drop m old = f .holds (omega arith) ∙ sym (append-assoc (take n old) s (drop m old)) in
+        let z : length (take n old ++ s) ≡ m = length-append (take n old) s ∙ omega arith in
+        let a : take m mid ≡ take n old ++ s = ap (take m) p ∙ take-at (take n old ++ s) (drop m old) m z in
+        let b : drop m mid ≡ drop m old = ap (drop m) p ∙ drop-at (take n old ++ s) (drop m old) m z in
+        let e : drop k mid ≡ drop k old = rw d (sym (drop-drop (length t) m mid) ∙ ap (drop (length t)) b ∙ drop-drop (length t) m old) in
+        g .holds (omega (arith, f .same)) ∙ rw (a, e, append-assoc (take n old), append-assoc s);
+  }
+
+-- at the start
+pub adds-first : {text old new : List ℕ} {n : ℕ} → Adds text old 0 new n → Wrote text old new n
+adds-first f = record { counts = omega (arith, f .counts); same = f .same; holds = f .holds }
+
+pub first-adds : {text old new : List ℕ} {n : ℕ} → Wrote text old new n → Adds text old 0 new n
+first-adds f = record { counts = omega (arith, f .counts); same = f .same; holds = f .holds }
+
+-- one more byte of a stored text
+pub take-next : (i place : ℕ) (texts : List ℕ) → place + i < length texts
+    → take (i + 1) (drop place texts) ≡ take i (drop place texts) ++ (getD texts (place + i) 0 ∷ [])
+take-next i place texts h =
+    let l : i < length (drop place texts) = simp length-drop (omega arith) in
+    rw add-one (take-suc (drop place texts) i 0 l ∙ rw getD-drop)
+
+-- a byte in the place of the last one
+pub adds-over : (t : List ℕ) (a b : ℕ) {old mid new : List ℕ} {n m : ℕ} → Adds (t ++ (a ∷ [])) old n mid (m + 1) → Adds (b ∷ []) mid m new (m + 1)
+    → Adds (t ++ (b ∷ [])) old n new (m + 1)
+adds-over t a b {old} {mid} {new} {n} {m} f g =
+    let c = f .counts in
+    let p = length-append t (a ∷ []) in
+    let q = length-append t (b ∷ []) in
+    record {
+      counts = omega arith;
+      same = g .same ∙ f .same;
+      holds = λ h.
+          let l : length (take n old) ≡ n = length-take-le n old (omega arith) in
+          let r = drop (m + 1) old in
+          let e : mid ≡ (take n old ++ t) ++ (a ∷ r) = f .holds h ∙ simp append-assoc in
+          let z : length (take n old ++ t) ≡ m = length-append (take n old) t ∙ omega arith in
+          let y : length ((take n old ++ t) ++ (a ∷ [])) ≡ m + 1 = length-append (take n old ++ t) (a ∷ []) ∙ omega arith in
+          let x : take m mid ≡ take n old ++ t = ap (take m) e ∙ take-at (take n old ++ t) (a ∷ r) m z in
+          let w : drop (m + 1) mid ≡ r = ap (drop (m + 1)) (e ∙ sym (append-assoc (take n old ++ t) (a ∷ []) r)) ∙ drop-at ((take n old ++ t) ++ (a ∷ [])) r (m + 1) y in
+          g .holds (omega (arith, f .same)) ∙ rw (x, w) (simp append-assoc);
+    }
