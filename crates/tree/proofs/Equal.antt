@@ -14,7 +14,7 @@ use Rattle.basics.proofs.Tests.{cases}
 use Rattle.tree.specs.Records.{Row, Branch, branch, Branches, []ᴮ, _∷ᴮ_, count, Node, nodes, nodesAll}
 use Rattle.tree.specs.OneTree.{kindOf, isExpression, rooted, build}
 use Rattle.tree.specs.Equality.{sameRow, sameBranch, sameBranches, structurallyEq}
-use Rattle.tree.specs.Promise.{countOf, wordAt, nodeAt, isSome, sameNode, comparisonOf, comparison}
+use Rattle.tree.specs.Promise.{countOf, wordAt, nodeAt, Inside, isSome, sameNode, comparisonOf, comparison}
 use Rattle.tree.specs.declared.Comparison.{Comparison}
 use Rattle.tree.specs.declared.Comparison.the-variants as Comparison
 use Rattle.tree.proofs.Back.{At, All}
@@ -186,8 +186,9 @@ inside-of ws ts [] lo i a h g = absurd (omega arith)
 inside-of ws ts (x ∷ xs) lo i (a, b) h g =
     cases (eqb lo i) (λ e. rw (eqb-true lo i e) at (a .inside)) (λ e. let f = eqb-false lo i e in inside-of ws ts xs (suc lo) i b (lo-less lo i h f) (omega arith))
 
-pub inside : {root : ℕ → Bool} {ws ts : List ℕ} (i : ℕ) → Tree root ws ts → i < countOf ws → wordAt ws i 2 + wordAt ws i 3 ≤ length ts
-inside {root} {ws} {ts} i t h = inside-of ws ts (nodes (t .top)) 0 i (t .all) (omega arith) (omega (arith, t .whole))
+pub inside : {root : ℕ → Bool} {ws ts : List ℕ} (i : ℕ) → Tree root ws ts → i < countOf ws → Inside ws ts i
+inside {root} {ws} {ts} i t h =
+    record { there = h; text = inside-of ws ts (nodes (t .top)) 0 i (t .all) (omega arith) (omega (arith, t .whole)) }
 
 -- ------------------------------------------------------------------ two trees
 

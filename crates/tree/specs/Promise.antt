@@ -1,6 +1,6 @@
 -- What the values of the code stand for, and what its functions promise of the words they are lent.
 -- Assumes nothing.
-use Prim.Native.Nat.{ℕ, zero, suc, _+_, _-_, _*_, _/_}
+use Prim.Native.Nat.{ℕ, zero, suc, _+_, _-_, _*_, _/_, _≤_, _<_}
 use mathlib.Core.Bool.{Bool, true, false, _&&_}
 use mathlib.Core.List.{List, [], _∷_, _++_}
 use mathlib.Core.Option.{Option, none, some}
@@ -94,6 +94,11 @@ recordAt ws i =
 -- a record with the text it has in the texts
 abbrev pub nodeAt : (words texts : List ℕ) → ℕ → Node
 nodeAt ws ts i = record { row = rowOf ts (recordAt ws i); children = wordAt ws i 6 }
+
+-- the words have the record, and its text lies in the texts
+pub record Inside (ws ts : List ℕ) (i : ℕ) : Type 0 where
+  pub there : i < countOf ws
+  pub text : wordAt ws i 2 + wordAt ws i 3 ≤ length ts
 
 -- where the last n branches begin that end before a record, counting back: each record takes its children with it. 0 where there are
 -- not so many

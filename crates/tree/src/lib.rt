@@ -13,7 +13,7 @@ ghost use Rattle.tree.specs.Records.{width, wordsOf};
 ghost use Rattle.tree.specs.CharClasses.{ranges, classValue};
 ghost use Rattle.tree.specs.Stored.{repeatValue, specializeValue, markerNumber, precValue};
 ghost use Rattle.tree.specs.OneTree.{isKind, isExpression, hasText, valuesFit, groupsOf, textFits, begins as beginsWith, childrenFit, recordFits, build};
-ghost use Rattle.tree.specs.Promise.{classOf, repeatOf, specializeOf, markerOf, precOf, recordOf, countOf, wordAt, recordAt, nodeAt, firstOf, kindBefore, kindsBack, kindsOf, groupsIn, rootOf, isSome, sameNode, comparison};
+ghost use Rattle.tree.specs.Promise.{classOf, repeatOf, specializeOf, markerOf, precOf, recordOf, countOf, wordAt, recordAt, nodeAt, Inside, firstOf, kindBefore, kindsBack, kindsOf, groupsIn, rootOf, isSome, sameNode, comparison};
 
 // How many words a record has, and which is which.
 const WIDTH: usize = 7;
@@ -655,7 +655,7 @@ fn same_bytes(left: &[u8], right: &[u8]) -> bool
 
 // The text of a record.
 pub fn text<'a>(records: &[u32], texts: &'a [u8], i: usize) -> &'a [u8]
-    requires { ⌜ (i < countOf (now records)) × (wordAt (now records) i 2 + wordAt (now records) i 3 ≤ length (now texts)) ⌝ }
+    requires { ⌜ Inside (now records) (now texts) i ⌝ }
     ensures { λ r. ⌜ now r ≡ nodeAt (now (records .entry)) (now (texts .entry)) i .row .text ⌝ }
 {
     let place = wide(word(records, i, PLACE));
@@ -681,8 +681,8 @@ fn same_record(
     right_texts: &[u8],
     i: usize,
 ) -> bool
-    requires { ⌜ (i < countOf (now «left_records»)) × (wordAt (now «left_records») i 2 + wordAt (now «left_records») i 3 ≤ length (now «left_texts»)) ⌝ }
-    requires { ⌜ (i < countOf (now «right_records»)) × (wordAt (now «right_records») i 2 + wordAt (now «right_records») i 3 ≤ length (now «right_texts»)) ⌝ }
+    requires { ⌜ Inside (now «left_records») (now «left_texts») i ⌝ }
+    requires { ⌜ Inside (now «right_records») (now «right_texts») i ⌝ }
     ensures { λ r. ⌜ r ≡ sameNode (nodeAt (now («left_records» .entry)) (now («left_texts» .entry)) i) (nodeAt (now («right_records» .entry)) (now («right_texts» .entry)) i) ⌝ }
 {
     let kind = word(left_records, i, KIND);

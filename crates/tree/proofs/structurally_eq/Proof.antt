@@ -42,8 +42,8 @@ loop-holds c = (omega arith, simp sub-zero)
 
 same-record-requires : tie.Need-same-record-requires Inv-loop μ-loop
 same-record-requires c κs = (
-  (omega (arith, c .before .before .count .ensures), inside _ (tree-of isExpression _ _ (sym (not-false _ (c .before .before .before .before .before .before .if1 .left)) ∙ c .before .before .before .before .before .before .before .is-tree .ensures)) (omega (arith, c .before .before .count .ensures))),
-  (omega (arith, c .before .before .count .ensures, c .before .before .before .if3 .left), inside _ (tree-of isExpression _ _ (sym (not-false _ (c .before .before .before .before .if2 .left)) ∙ c .before .before .before .before .before .is-tree2 .ensures)) (omega (arith, c .before .before .count .ensures, c .before .before .before .if3 .left))),
+  inside _ (tree-of isExpression _ _ (sym (not-false _ (c .before .before .before .before .before .before .if1 .left)) ∙ c .before .before .before .before .before .before .before .is-tree .ensures)) (omega (arith, c .before .before .count .ensures)),
+  inside _ (tree-of isExpression _ _ (sym (not-false _ (c .before .before .before .before .if2 .left)) ∙ c .before .before .before .before .before .is-tree2 .ensures)) (omega (arith, c .before .before .count .ensures, c .before .before .before .if3 .left)),
 )
 
 returns-4 : tie.Need-returns-4 Inv-loop μ-loop
