@@ -11,7 +11,7 @@ use lib.ListN.{length}
 use borrow.Author.Tests.{eqb-true, eqb-false, eq-eqb, ne-eqb}
 use Rattle.basics.specs.Basics.{if_then_else_}
 use Rattle.basics.proofs.Tests.{cases}
-use Rattle.tree.specs.Records.{Row, Branch, branch, Branches, []ᴮ, _∷ᴮ_, count, Node, nodes, nodesAll}
+use Rattle.tree.specs.Records.{Row, Branch, branch, Branches, []ᴮ, _∷ᴮ_, count, Node, nodes, nodesAll, width}
 use Rattle.tree.specs.OneTree.{kindOf, isExpression, rooted, build}
 use Rattle.tree.specs.Equality.{sameRow, sameBranch, sameBranches, structurallyEq}
 use Rattle.tree.specs.Promise.{countOf, wordAt, nodeAt, Inside, isSome, sameNode, comparisonOf, comparison}
@@ -147,7 +147,7 @@ pub record Tree (root : ℕ → Bool) (ws ts : List ℕ) : Type 0 where
   pub top : Branch
   pub is : build root ws ts ≡ some top
   pub all : All ws ts 0 (nodes top)
-  pub whole : length ws ≡ length (nodes top) * 7
+  pub whole : length ws ≡ length (nodes top) * width
 
 pub rooted-some : (root : ℕ → Bool) (o : Option Branch) (b : Branch) → rooted root o ≡ some b → o ≡ some b
 rooted-some root none b e = e
@@ -155,12 +155,12 @@ rooted-some root (some c) b e = cases (root (kindOf c)) (λ t. rw t at e) (λ t.
 
 tree-by : (root : ℕ → Bool) (ws ts : List ℕ) (b : Branch) → build root ws ts ≡ some b → Tree root ws ts
 tree-by root ws ts b e =
-    cases (eqb (length ws / 7 * 7) (length ws))
-    (λ w. let f = eqb-true (length ws / 7 * 7) (length ws) w in
-    let o : grownOf ws ts (length ws / 7) ≡ some b = rooted-some root (grownOf ws ts (length ws / 7)) b (sym (build-whole root ws ts (length ws / 7) (sym f)) ∙ e) in
-    let s = standing ws ts b (length ws / 7) 0 0 0 (rw o at (grown-first ws ts (length ws / 7) (length ws / 7) refl)) (omega arith) in
+    cases (eqb (length ws / width * width) (length ws))
+    (λ w. let f = eqb-true (length ws / width * width) (length ws) w in
+    let o : grownOf ws ts (length ws / width) ≡ some b = rooted-some root (grownOf ws ts (length ws / width)) b (sym (build-whole root ws ts (length ws / width) (sym f)) ∙ e) in
+    let s = standing ws ts b (length ws / width) 0 0 0 (rw o at (grown-first ws ts (length ws / width) (length ws / width) refl)) (omega arith) in
     record { top = b; is = e; all = s .0; whole = omega (arith, s .1) })
-    (λ w. absurd (let f : none ≡ some b = sym (build-broken root ws ts (eqb-false (length ws / 7 * 7) (length ws) w)) ∙ e in let z : _≡_ {A = ℕ} 0 1 = cc in omega arith))
+    (λ w. absurd (let f : none ≡ some b = sym (build-broken root ws ts (eqb-false (length ws / width * width) (length ws) w)) ∙ e in let z : _≡_ {A = ℕ} 0 1 = cc in omega arith))
 
 tree-some : (root : ℕ → Bool) (ws ts : List ℕ) (o : Option Branch) → build root ws ts ≡ o → true ≡ isSome o → Tree root ws ts
 tree-some root ws ts none e h = absurd (let z : _≡_ {A = ℕ} 0 1 = cc in omega arith)
@@ -205,7 +205,7 @@ module _ {lw lt : List ℕ} (t : Tree isExpression lw lt) where
 
     pub unequal : (length lw ≡ length rw′ → ⊥) → Comparison.Different ≡ comparing lw lt rw′ rt
     unequal h =
-        sym (compared ∙ ap comparisonOf (lengths-differ (nodes (t .top)) (nodes (u .top)) (λ e. h (t .whole ∙ ap (λ (n : ℕ). n * 7) e ∙ sym (u .whole)))))
+        sym (compared ∙ ap comparisonOf (lengths-differ (nodes (t .top)) (nodes (u .top)) (λ e. h (t .whole ∙ ap (λ (n : ℕ). n * width) e ∙ sym (u .whole)))))
 
     pub by-records : (n : ℕ) → n ≡ countOf lw → length lw ≡ length rw′ → comparing lw lt rw′ rt ≡ comparisonOf (sameFrom lw lt rw′ rt 0 n)
     by-records n e h =

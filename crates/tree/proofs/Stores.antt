@@ -7,10 +7,11 @@ use mathlib.Core.List.{List, [], _∷_, _++_}
 use lib.ListN.{length, set, take, drop}
 use lib.Seq.{sets-eq, paste, take-all}
 use Rattle.characters.specs.Promise.{written}
+use Rattle.tree.specs.Records.{width}
 use Rattle.characters.proofs.Written.{written-in}
 
 -- word after word
-pub stored : (l : List ℕ) (at a b c d e f g : ℕ) → at + 7 ≤ length l
+pub stored : (l : List ℕ) (at a b c d e f g : ℕ) → at + width ≤ length l
     → set (set (set (set (set (set (set l at a) (at + 1) b) (at + 2) c) (at + 3) d) (at + 4) e) (at + 5) f) (at + 6) g ≡ written l at (a ∷ b ∷ c ∷ d ∷ e ∷ f ∷ g ∷ [])
 stored l at a b c d e f g h =
     let e1 : at + 1 ≡ suc at = omega arith in

@@ -11,7 +11,7 @@ use lib.ListN.{length, take, drop, getD, length-append}
 use borrow.Author.Tests.{eqb-true, leb-true, leb-false, le-leb, lt-leb}
 use Rattle.basics.specs.Basics.{if_then_else_}
 use Rattle.basics.proofs.Tests.{cases, both-true}
-use Rattle.tree.specs.Records.{Row, Branch, branch, Branches, []ᴮ, _∷ᴮ_, Node, nodes, nodesAll, Record}
+use Rattle.tree.specs.Records.{Row, Branch, branch, Branches, []ᴮ, _∷ᴮ_, Node, nodes, nodesAll, Record, width}
 use Rattle.tree.specs.OneTree.{kindOf, rowOf, hasText, isKind, valuesFit, childrenFit, textFits, recordFits, only, buildFrom, recordsIn, buildBy, rooted, build}
 use Rattle.tree.specs.Promise.{wordAt, recordAt, nodeAt, kindBefore, kindsBack, isSome}
 use Rattle.tree.proofs.Back.{At, All, all-append, all-one, flat, over, flat-over, length-over, kinds-back, kind-top, kind-some, nodes-some}
@@ -27,7 +27,7 @@ recordsOf ws i (suc n) = recordAt ws i ∷ recordsOf ws (i + 1) n
 module _ (a b c d e f g : ℕ) (ws : List ℕ) where
   past-word : (i k : ℕ) → wordAt (a ∷ b ∷ c ∷ d ∷ e ∷ f ∷ g ∷ ws) (i + 1) k ≡ wordAt ws i k
   past-word i k =
-      let z : (i + 1) * 7 + k ≡ suc (suc (suc (suc (suc (suc (suc (i * 7 + k))))))) = omega arith in
+      let z : (i + 1) * width + k ≡ suc (suc (suc (suc (suc (suc (suc (i * width + k))))))) = omega arith in
       rw z
 
   past-records : (n i : ℕ) → recordsOf (a ∷ b ∷ c ∷ d ∷ e ∷ f ∷ g ∷ ws) (i + 1) n ≡ recordsOf ws i n
@@ -36,7 +36,7 @@ module _ (a b c d e f g : ℕ) (ws : List ℕ) where
   past-records (suc n) i =
       rw (past-word i 0, past-word i 1, past-word i 2, past-word i 3, past-word i 4, past-word i 5, past-word i 6, past-records n (i + 1))
 
-pub records-in : (n : ℕ) (ws : List ℕ) → length ws ≡ n * 7 → recordsIn ws ≡ some (recordsOf ws 0 n)
+pub records-in : (n : ℕ) (ws : List ℕ) → length ws ≡ n * width → recordsIn ws ≡ some (recordsOf ws 0 n)
 unfolding recordsIn recordsOf
 records-in zero [] h = refl
 records-in zero (a ∷ ws) h = absurd (omega arith)
@@ -49,7 +49,7 @@ records-in (suc n) (a ∷ b ∷ c ∷ d ∷ e ∷ []) h = absurd (omega arith)
 records-in (suc n) (a ∷ b ∷ c ∷ d ∷ e ∷ f ∷ []) h = absurd (omega arith)
 records-in (suc n) (a ∷ b ∷ c ∷ d ∷ e ∷ f ∷ g ∷ ws) h = rw (records-in n ws (omega arith), past-records a b c d e f g ws n 0)
 
-pub records-broken : (ws : List ℕ) → (length ws / 7 * 7 ≡ length ws → ⊥) → recordsIn ws ≡ none
+pub records-broken : (ws : List ℕ) → (length ws / width * width ≡ length ws → ⊥) → recordsIn ws ≡ none
 unfolding recordsIn
 records-broken [] h = absurd (h refl)
 records-broken (a ∷ []) h = refl
@@ -64,11 +64,11 @@ records-broken (a ∷ b ∷ c ∷ d ∷ e ∷ f ∷ g ∷ ws) h = rw (records-br
 abbrev pub grownOf : (ws ts : List ℕ) → ℕ → Option Branch
 grownOf ws ts n = buildFrom ts 0 (recordsOf ws 0 n) []
 
-pub build-whole : (root : ℕ → Bool) (ws ts : List ℕ) (n : ℕ) → length ws ≡ n * 7 → build root ws ts ≡ rooted root (grownOf ws ts n)
+pub build-whole : (root : ℕ → Bool) (ws ts : List ℕ) (n : ℕ) → length ws ≡ n * width → build root ws ts ≡ rooted root (grownOf ws ts n)
 unfolding build
 build-whole root ws ts n h = ap (λ o. rooted root (buildBy ts o)) (records-in n ws h)
 
-pub build-broken : (root : ℕ → Bool) (ws ts : List ℕ) → (length ws / 7 * 7 ≡ length ws → ⊥) → build root ws ts ≡ none
+pub build-broken : (root : ℕ → Bool) (ws ts : List ℕ) → (length ws / width * width ≡ length ws → ⊥) → build root ws ts ≡ none
 unfolding build
 build-broken root ws ts h = ap (λ o. rooted root (buildBy ts o)) (records-broken ws h)
 
@@ -215,10 +215,10 @@ module _ (ws ts : List ℕ) (b : Branch) where
       (λ e. none-some (sym (misfit ws ts i at (suc n) n refl g (leb-true (wordAt ws i 6) depth d) e))))
       (λ d. none-some (sym (too-few ws ts i at (suc n) n refl g (leb-false (wordAt ws i 6) depth d))))
 
-pub no-tree : (root : ℕ → Bool) (ws ts : List ℕ) (n : ℕ) → length ws ≡ n * 7 → grownOf ws ts n ≡ none → false ≡ isSome (build root ws ts)
+pub no-tree : (root : ℕ → Bool) (ws ts : List ℕ) (n : ℕ) → length ws ≡ n * width → grownOf ws ts n ≡ none → false ≡ isSome (build root ws ts)
 no-tree root ws ts n h e = sym (ap isSome (build-whole root ws ts n h ∙ ap (rooted root) e))
 
-pub rooted-last : (root : ℕ → Bool) (ws ts : List ℕ) (n : ℕ) → length ws ≡ n * 7 → {i depth at : ℕ} (m : ℕ) → m ≡ 0 → i ≡ n → Grown ws ts m i depth at (grownOf ws ts n)
+pub rooted-last : (root : ℕ → Bool) (ws ts : List ℕ) (n : ℕ) → length ws ≡ n * width → {i depth at : ℕ} (m : ℕ) → m ≡ 0 → i ≡ n → Grown ws ts m i depth at (grownOf ws ts n)
     → depth ≡ 1 → root (wordAt ws (n - 1) 0) ≡ isSome (build root ws ts)
 rooted-last root ws ts n h {i} m q e g d =
     let f = grown-few g in
