@@ -14,7 +14,7 @@ use Rattle.tree.specs.Equality.{allAgreeing, agree}
 use Rattle.tree.specs.Syntax.{Identifier, PropPart, value, Prop, ConflictMarker, Expression, special, inline, choice, sequence, empty, repeat, set, any, class, Expressions, []ᴱ, _∷ᴱ_, Slots, last, slot, RuleDeclaration, TokenReference, referred, TokenPrecDeclaration, TokenConflictDeclaration, LiteralDeclaration, NamedNode, ExternalPropDeclaration, PrecItem, Declaration, topRule, rule, tokens, localTokens, context, externalTokens, externalSpecializer, externalPropSource, precedences, mainSkip, scopedSkip, GrammarDeclaration, startOf}
 use Rattle.laws.specs.Starts.{onIdentifier, onPart, onProp, onMarker, onExpression, onExpressions, onSlots, onRule, onReference, onTokenPrec, onTokenConflict, onLiteral, onNamedNode, onFallback, onPrecItem, onExternalProp, onDeclaration, onGrammar, bare}
 use Rattle.laws.proofs.Fine.{U}
-use Rattle.laws.proofs.Flat.{bareBranch, bareBranches, agreed, agrees}
+use Rattle.tree.proofs.Known.{bareBranch, bareBranches, agreed, agrees}
 use Rattle.laws.proofs.Good.{GoodGrammar}
 use Rattle.laws.proofs.Decode.{grammarIn}
 use Rattle.laws.proofs.DecodeBackExpressions.{zeroed}

@@ -11,7 +11,7 @@ use Rattle.basics.proofs.Tests.{both-true}
 use Rattle.characters.specs.Utf8.{codes, encodeAll}
 use Rattle.characters.proofs.Chars.{Scalars, codes-all}
 use Rattle.lexer.specs.Tokens.{Kind, Tokens, tokens}
-use Rattle.lexer.proofs.Spelled.{same-true}
+use Rattle.basics.proofs.Same.{same-true}
 use Rattle.tree.specs.Records.{Record, words, records, texts}
 use Rattle.tree.specs.Syntax.{GrammarDeclaration}
 use Rattle.tree.specs.Stored.{grammarBranch, grammarRecords, grammarTexts, grammarWords}

@@ -21,7 +21,6 @@ pub mod ReadBackRules
 pub mod ReadBackTokens
 pub mod ReadBackBlocks
 pub mod ReadBackGrammar
-pub mod Flat
 pub mod Decode
 pub mod DecodeBackExpressions
 pub mod DecodeBack

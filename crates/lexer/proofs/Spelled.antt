@@ -1,39 +1,20 @@
 -- Words compared by their bytes, and by their characters.
 -- Assumes nothing.
-use mathlib.Core.Path.{_≡_, refl, sym, _∙_, ap, ap₂, subst}
+use mathlib.Core.Path.{_≡_, refl, sym, _∙_, ap, subst}
 use mathlib.Core.Bool.{Bool, true, false}
 use mathlib.Core.List.{List, [], _∷_}
 use Prim.Native.Nat.{ℕ}
 use native.Mathlib.Omega.{arith}
-use lib.Dec.{eqb, ltb}
-use borrow.Author.Tests.{eq-eqb, eqb-true, ltb-true}
+use lib.Dec.{ltb}
+use borrow.Author.Tests.{ltb-true}
 use Rattle.basics.specs.Basics.{same, every}
-use Rattle.basics.proofs.Tests.{cases, both-true}
+use Rattle.basics.proofs.Tests.{both-true}
+use Rattle.basics.proofs.Same.{same-true, same-refl, same-by}
 use Rattle.characters.specs.Utf8.{encodeAll, codes}
 use Rattle.characters.proofs.Encode.{scalar-low, encode-1}
 use Rattle.characters.proofs.Chars.{Scalars, none-left, one-more, codes-all}
 
--- ------------------------------------------------------------------ `same` is equality
-
-pub same-true : (a b : List ℕ) → same a b ≡ true → a ≡ b
-unfolding same
-same-true [] [] e = refl
-same-true [] (y ∷ b) e = let z : _≡_ {A = ℕ} 0 1 = cc in absurd (omega arith)
-same-true (x ∷ a) [] e = let z : _≡_ {A = ℕ} 0 1 = cc in absurd (omega arith)
-same-true (x ∷ a) (y ∷ b) e = let h = both-true (eqb x y) (same a b) e in ap₂ (λ (n : ℕ) (l : List ℕ). n ∷ l) (eqb-true x y (h .0)) (same-true a b (h .1))
-
-pub same-refl : (a : List ℕ) → same a a ≡ true
-unfolding same
-same-refl [] = refl
-same-refl (x ∷ a) = rw (eq-eqb x x refl) (same-refl a)
-
--- a test that holds exactly of equal lists is `same`
-pub same-by : (r : Bool) (a b : List ℕ) → (r ≡ true → a ≡ b) → (a ≡ b → r ≡ true) → r ≡ same a b
-same-by true a b f g = sym (ap (same a) (sym (f refl)) ∙ same-refl a)
-same-by false a b f g = cases (same a b) (λ e. g (same-true a b e) ∙ sym e) (λ e. sym e)
-
--- ------------------------------------------------------------------ words of ASCII characters
-
+-- all ASCII
 abbrev pub isPlain : List ℕ → Bool
 isPlain w = every (λ c. ltb c 0x80) w
 

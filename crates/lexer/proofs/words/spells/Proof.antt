@@ -1,6 +1,6 @@
 -- `lexer::words::spells` meets its contract. Assumes nothing.
 use borrow.Author.Needs.{needs}
-use Rattle.lexer.proofs.Spelled.{same-by}
+use Rattle.basics.proofs.Same.{same-by}
 use Rattle.lexer.proofs.words.spells.Statement.{statement}
 use Rattle.lexer.proofs.words.spells.Tie as tie
 
