@@ -1,3 +1,4 @@
 pub mod Turns
 pub mod Stream
 pub mod Stored
+pub mod Spread

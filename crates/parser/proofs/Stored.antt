@@ -12,7 +12,7 @@ use Rattle.characters.specs.Promise.{written, writtenAll}
 use Rattle.characters.proofs.Written.{written-in, length-written, written-rest, all-in}
 use Rattle.tree.specs.Records.{Node, Record, placeOf, wordsOf, width, recordsFrom, words, textsOf}
 use Rattle.tree.proofs.Encoded.{records-append, texts-append}
-use Rattle.parser.specs.Storing.{Lent, lent, Stores, StoresPlain, node, flat}
+use Rattle.parser.specs.Storing.{Lent, lent, Stores, StoresPlain, node}
 
 -- ------------------------------------------------------------------ one after another
 
@@ -45,7 +45,7 @@ unfolding words recordsFrom
 words-length at [] = refl
 words-length at (x ∷ xs) = let l = words-length (at + length (x .row .text)) xs in omega arith
 
-written-none : (out : List ℕ) (at : ℕ) → at ≤ length out → written out at [] ≡ out
+pub written-none : (out : List ℕ) (at : ℕ) → at ≤ length out → written out at [] ≡ out
 written-none out at h = let z : at + 0 ≡ at = omega arith in written-in out at [] (omega arith) ∙ rw (z, append-nil) (take-append-drop at out)
 
 -- nothing

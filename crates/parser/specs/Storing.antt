@@ -5,8 +5,13 @@ use mathlib.Core.Path.{_≡_}
 use mathlib.Core.List.{List, [], _∷_, _++_}
 use lib.ListN.{length}
 use Rattle.characters.specs.Promise.{written}
-use Rattle.characters.specs.Utf8.{encodeAll}
-use Rattle.tree.specs.Records.{Row, Branch, Node, nodes, width, recordsFrom, words, textsOf}
+use Rattle.characters.specs.Utf8.{codes}
+use Rattle.characters.specs.Spans.{Span}
+use Rattle.lexer.specs.Sets.{spans, sorted}
+use Rattle.lexer.specs.declared.sets.Ranges.{Ranges}
+use Rattle.lexer.specs.declared.sets.Ranges.the-variants.{Sound, Reversed, Overlapping}
+use Rattle.tree.specs.Records.{Branch, Node, nodes, width, recordsFrom, words, textsOf}
+use Rattle.tree.specs.Stored.{spanBranch}
 
 -- words and bytes that are lent, and how many of each are taken
 pub record Lent : Type 0 where
@@ -44,3 +49,19 @@ flat f (x ∷ xs) = f x ++ flat f xs
 -- the nodes of what has a branch
 abbrev pub nodesOf : {A : Type 0} → (A → Branch) → A → List Node
 nodesOf f x = nodes (f x)
+
+-- ------------------------------------------------------------------ the spans of a set
+
+-- the words of spans as records, of a set that starts at a place
+unfoldable pub spanWords : (start : ℕ) → List Span → List ℕ
+spanWords p ss = words (recordsFrom 0 (flat (nodesOf (spanBranch p)) ss))
+
+-- spans are stored, whatever bytes are lent
+pub record StoresSpans (start : ℕ) (ss : List Span) (n : ℕ) (ws : List ℕ) (m : ℕ) (vs : List ℕ) : Type 0 where
+  pub stores : (x : ℕ) (ts : List ℕ) → Stores (flat (nodesOf (spanBranch start)) ss) (lent n ws x ts) (lent m vs x ts)
+
+-- the spans of a body are stored in ascending order, no more of them than it has bytes; of a set that is stopped nothing is said
+abbrev pub StoresSet : (body : List ℕ) (start n : ℕ) (ws vs : List ℕ) → Ranges → Type 0
+StoresSet b p n ws vs (Sound m) = (m ≤ length b) × StoresSpans p (sorted (spans (codes b))) n ws (n + width * m) vs
+StoresSet b p n ws vs Reversed = Unit {0}
+StoresSet b p n ws vs Overlapping = Unit {0}

@@ -1,14 +1,18 @@
 // Storing nodes. A record or a text that does not fit is counted and not stored, so a run over empty parts measures.
+use lexer::sets::Ranges;
 use tree::Record;
 ghost use mathlib.Core.Path.{_≡_};
 ghost use mathlib.Core.List.{List, [], _∷_};
+ghost use mathlib.Core.Option.{none};
 ghost use Prim.Native.Nat.{ℕ, _+_, _*_, _≤_, _<_, _^_};
-ghost use lib.ListN.{length};
+ghost use lib.ListN.{length, drop};
 ghost use Rattle.characters.specs.Utf8.{codes, encodeAll};
 ghost use Rattle.characters.specs.Promise.{written};
 ghost use Rattle.lexer.specs.Escapes.{decodeString};
+ghost use Rattle.lexer.specs.Promise.{Checks, spansIn, wordsOf};
+ghost use Rattle.lexer.specs.Sets.{spans, fault, sorted};
 ghost use Rattle.tree.specs.Records.{placeOf};
-ghost use Rattle.parser.specs.Storing.{lent, Stores, StoresPlain, node};
+ghost use Rattle.parser.specs.Storing.{lent, Stores, StoresPlain, node, spanWords, StoresSet};
 
 // How many words and bytes are taken.
 pub struct Put {
@@ -121,4 +125,66 @@ pub fn put_string(
     let size = put_value(body, texts, x);
     let m = put_record(records, n, kind, start, x, size, 0, children);
     Put { n: m, x: x + size }
+}
+
+// The spans of a set that starts at a place, a node each, in ascending order: how many there are, or what stops the set.
+pub fn put_spans(body: &[u8], start: usize, records: &mut [u32], n: usize) -> Ranges
+    requires { ⌜ (n + 7 * length (now body) < 2 ^ 64) × (start < 2 ^ 32) ⌝ }
+    ensures { λ r. ⌜ Checks (spans (codes (now (body .entry)))) r × StoresSet (now (body .entry)) start n (now (records .entry)) (now (records .exit)) r ⌝ }
+{
+    match read_spans(body, records, n) {
+        Ranges::Reversed => Ranges::Reversed,
+        Ranges::Overlapping => Ranges::Overlapping,
+        Ranges::Sound(count) => {
+            spread(records, n, start as u32, count);
+            Ranges::Sound(count)
+        }
+    }
+}
+
+// The spans in ascending order behind the first n words, two words each.
+fn read_spans(body: &[u8], records: &mut [u32], n: usize) -> Ranges
+    ensures { λ r. ⌜ Checks (spans (codes (now (body .entry)))) r
+        × (fault (spans (codes (now (body .entry)))) ≡ none → now (records .exit) ≡ written (now (records .entry)) n (wordsOf (sorted (spans (codes (now (body .entry))))))) ⌝ }
+{
+    if records.len() < n {
+        return lexer::sets::parse_set_ranges(body, &mut records[..0]);
+    }
+    lexer::sets::parse_set_ranges(body, &mut records[n..])
+}
+
+// Spans of two words each, behind the first n words, to records in their place, the last first, where these fit.
+fn spread(records: &mut [u32], n: usize, start: u32, count: usize)
+    requires { ⌜ n + 7 * count < 2 ^ 64 ⌝ }
+    ensures { λ _. ⌜ now (records .exit) ≡ written (now (records .entry)) n (spanWords start (spansIn count (drop n (now (records .entry))))) ⌝ }
+{
+    if records.len() < n + 7 * count {
+        return;
+    }
+    let mut i = count;
+    while 0 < i {
+        i -= 1;
+        let first = records[n + 2 * i];
+        let past = records[n + 2 * i + 1];
+        put_span(records, n + 7 * i, start, first, past);
+    }
+}
+
+// The record of a span.
+fn put_span(records: &mut [u32], at: usize, start: u32, first: u32, past: u32)
+    ensures { λ _. ⌜ now (records .exit) ≡ written (now (records .entry)) at (38 ∷ start ∷ 0 ∷ 0 ∷ first ∷ past ∷ 0 ∷ []) ⌝ }
+{
+    let _size = tree::put(
+        records,
+        at,
+        Record {
+            kind: 38,
+            start: start,
+            place: 0,
+            size: 0,
+            value: first,
+            second: past,
+            children: 0,
+        },
+    );
 }
