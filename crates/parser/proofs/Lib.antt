@@ -1,4 +1,10 @@
+pub mod Ends
 pub mod Turns
 pub mod Stream
 pub mod Stored
+pub mod Onward
+pub mod Lists
+pub mod Openings
+pub mod Ready
+pub mod PropRules
 pub mod Spread

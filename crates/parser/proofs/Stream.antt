@@ -35,6 +35,7 @@ use Rattle.tree.specs.Syntax.{Identifier as Name}
 use Rattle.parser.specs.declared.Part.{Part}
 use Rattle.parser.specs.declared.Part.the-variants.{From, Nothing}
 use Rattle.parser.specs.declared.Eaten.{Eaten}
+use Rattle.parser.proofs.Ends.{eof-inside}
 use Rattle.parser.specs.declared.Eaten.the-variants as E
 
 not-true : (b : Bool) → not b ≡ true → b ≡ false
@@ -52,9 +53,9 @@ module _ (s : List ℕ) (from : ℕ) (l : Lexed) (r : Reads s from l) where
   unfolding arrive stream
   arrived-token {k} {start} {end} e = let h : Reads s from (L.Token k start end) = rw e at r in (ap arrive (h .tokens), h .placed)
 
-  pub arrived-end : {p : ℕ} → l ≡ L.Eof p → (arrive (tokensAt s from) ≡ arrival s (At (End p))) × Unit {0}
+  pub arrived-end : {p : ℕ} → l ≡ L.Eof p → (arrive (tokensAt s from) ≡ arrival s (At (End p))) × LiesIn s from (End p)
   unfolding arrive stream
-  arrived-end {p} e = let h : Reads s from (L.Eof p) = rw e at r in (ap arrive (h .tokens), tt)
+  arrived-end {p} e = let h : Reads s from (L.Eof p) = rw e at r in (ap arrive (h .tokens), λ i. eof-inside s from (h .tokens) i)
 
   pub arrived-refused : {c : LexerCause.Cause} {p : ℕ} (d : Cause) → l ≡ L.Refused c p → causeNumber d ≡ number c
       → (arrive (tokensAt s from) ≡ arrival s (Refused d p)) × Unit {0}
@@ -84,9 +85,9 @@ module _ (s : List ℕ) where
   unfolding next stream
   next-token t k start end r e h = rw e h
 
-  pub next-end : (t : Current) (p : ℕ) → t ≡ End p → (next (stream s t) ≡ arrival s (At (End p))) × Unit {0}
+  pub next-end : (t : Current) (p : ℕ) → t ≡ End p → (next (stream s t) ≡ arrival s (At (End p))) × LiesIn s (endIn t) (End p)
   unfolding next stream
-  next-end t p e = rw e (refl, tt)
+  next-end t p e = rw e (refl, λ h. h)
 
   -- ------------------------------------------------------------------ names
 

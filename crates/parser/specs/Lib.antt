@@ -5,3 +5,4 @@ pub mod Members
 pub mod Declarations
 pub mod Promise
 pub mod Storing
+pub mod Steps

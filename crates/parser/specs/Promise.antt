@@ -66,7 +66,7 @@ arrival s (Refused c p) = refused (causeNumber c) p
 -- the current token lies in the text, from a place on
 abbrev pub LiesIn : List ℕ → ℕ → Current → Type 0
 LiesIn s from (Token k start end) = (from ≤ start) × (start < end) × (end ≤ length s) × Parted s start k × Inside start end k
-LiesIn s from (End p) = Unit {0}
+LiesIn s from (End p) = from ≤ length s → p ≤ length s
 
 abbrev pub Lies : List ℕ → ℕ → Arrived → Type 0
 Lies s from (At t) = LiesIn s from t
