@@ -8,3 +8,9 @@ pub mod Openings
 pub mod Ready
 pub mod PropRules
 pub mod Spread
+pub mod ExpressionRules
+pub mod InnerRules
+pub mod SequenceRules
+pub mod Shown
+pub mod PartRules
+pub mod HeadRules

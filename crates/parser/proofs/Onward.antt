@@ -31,6 +31,7 @@ use Rattle.parser.specs.declared.Part.{Part}
 use Rattle.parser.specs.declared.Part.the-variants.{From, Nothing}
 use Rattle.parser.specs.Promise.{stream, startIn, endIn, codeIn, textIn, markOf, nameOf, atOf, stringOf, arrival, LiesIn, Lies, Eats, Expects, Identifies, TakesString, EatsIf}
 use Rattle.parser.specs.Steps.{placed, Onward}
+use Rattle.parser.specs.Shapes.{IsToken}
 use Rattle.parser.proofs.Stream.{start-of, mark-of, name-of, string-of}
 
 must-read : (a : Answer ℕ Bool) (us : Tokens ℕ) → andThen a must ≡ read tt us → a ≡ read true us
@@ -38,11 +39,6 @@ unfolding andThen must pure refuseHere
 must-read (read true vs) us e = let z : vs ≡ us = cc in rw z
 must-read (read false vs) us e = absurd (let z : _≡_ {A = ℕ} 0 1 = cc in omega arith)
 must-read (refused n p) us e = absurd (let z : _≡_ {A = ℕ} 0 1 = cc in omega arith)
-
--- no end
-abbrev pub IsToken : Current → Type 0
-IsToken (Token k start end) = Unit {0}
-IsToken (End p) = ⊥
 
 pub mark-token : (t : Current) {c : ℕ} → markOf t ≡ c → 0 < c → IsToken t
 mark-token (Token k start end) e h = tt

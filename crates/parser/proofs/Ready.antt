@@ -22,6 +22,7 @@ use Rattle.parser.specs.Parser.{Answer, read, refused, Parser, next}
 use Rattle.parser.specs.Promise.{stream, startIn, endIn, nameOf, atOf, stringOf, arrival, LiesIn, Lies, Identifies, TakesString, takenBy}
 use Rattle.parser.specs.Storing.{Lent, lent, Stores, flat, nodesOf}
 use Rattle.parser.specs.Steps.{placed, Holds, Onward, Lays, Ready, Lists}
+use Rattle.parser.specs.Shapes.{IsToken}
 use Rattle.parser.specs.declared.Current.{Current}
 use Rattle.parser.specs.declared.Current.the-variants.{Token, End}
 use Rattle.parser.specs.declared.Arrived.{Arrived}
@@ -31,7 +32,7 @@ use Rattle.parser.specs.declared.Taken.the-variants as G
 use Rattle.parser.specs.declared.Part.{Part}
 use Rattle.parser.specs.declared.Part.the-variants.{From, Nothing}
 use Rattle.parser.proofs.Stored.{stores-then}
-use Rattle.parser.proofs.Onward.{IsToken, placed-in, placed-from, start-small, end-in, next-onward, name-onward, string-onward}
+use Rattle.parser.proofs.Onward.{placed-in, placed-from, start-small, end-in, next-onward, name-onward, string-onward}
 use Rattle.parser.proofs.Lists.{Listing, flat-more}
 
 -- ------------------------------------------------------------------ from one place to the next
@@ -99,14 +100,14 @@ pub no-part : {a e : ℕ} → Nothing ≡ From a e → ⊥
 no-part q = let z : _≡_ {A = ℕ} 0 1 = cc in omega arith
 
 module _ (s : List ℕ) where
-  cut-length : {a e : ℕ} → L.Part s a e → length (cut s a e) ≡ e - a
+  pub cut-length : {a e : ℕ} → L.Part s a e → length (cut s a e) ≡ e - a
   cut-length {a} {e} p =
       let i = p .inside in
       let l = length-drop a s in
       length-take-le (e - a) (drop a s) (omega arith)
 
   -- the part b to f of a token
-  held : (k : Kind) {start end b f a e : ℕ} → From b f ≡ From a e → start < end → L.Part s b f → (start ≤ b) × (f ≤ end) → Held s (Token k start end) a e
+  pub held : (k : Kind) {start end b f a e : ℕ} → From b f ≡ From a e → start < end → L.Part s b f → (start ≤ b) × (f ≤ end) → Held s (Token k start end) a e
   held k {start} {end} {b} {f} {a} {e} q h p i =
       let y : b ≡ a = cc in
       let z : f ≡ e = cc in

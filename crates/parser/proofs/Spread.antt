@@ -64,7 +64,7 @@ written-few (a ∷ l) zero = by (rangeEnd a l) (λ k. written-few l k)
 pub spans-few : (b : List ℕ) → length (spans (codes b)) ≤ length b
 spans-few b = omega (arith, written-few (atoms (codes b)) 0, atoms-few (codes b) 0, codes-few 0 b)
 
-length-sorted : (ss : List Span) → length (sorted ss) ≡ length ss
+pub length-sorted : (ss : List Span) → length (sorted ss) ≡ length ss
 unfolding sorted
 length-sorted [] = refl
 length-sorted (s ∷ ss) = length-insert s (sorted ss) ∙ ap suc (length-sorted ss)

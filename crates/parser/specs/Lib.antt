@@ -6,3 +6,4 @@ pub mod Declarations
 pub mod Promise
 pub mod Storing
 pub mod Steps
+pub mod Shapes

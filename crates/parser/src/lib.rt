@@ -1,6 +1,7 @@
 // From the tokens of a text to the records of its tree.
 pub mod store; // records and texts in what is lent
 pub mod props; // lists and props
+pub mod parts; // parts of rules and expressions
 
 use error::Cause;
 use lexer::Kind;

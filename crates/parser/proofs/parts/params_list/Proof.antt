@@ -1,0 +1,130 @@
+-- `parts::params_list` meets its contract.
+-- Assumes nothing.
+use native.Mathlib.Omega.{arith}
+use mathlib.Core.Path.{refl}
+use borrow.Author.Needs.{needs}
+use Rattle.parser.specs.Parser.{size, untilStep, eat, comma, parseIdentifier}
+use Rattle.parser.specs.Promise.{stream}
+use Rattle.parser.specs.Storing.{lent, nodesOf}
+use Rattle.parser.specs.declared.props.Comma.the-variants.{Must}
+use Rattle.parser.specs.declared.props.Parsed.the-variants as P
+use Rattle.tree.specs.Stored.{nameBranch}
+use Rattle.parser.proofs.Ready.{ready-step, ready-on, put-asks, part-short, name-got, taken-not, listing-small}
+use Rattle.parser.proofs.Lists.{Listing, listing-start}
+use Rattle.parser.proofs.Openings.{item-onward, list-closed, list-refused, item-refused, item-more}
+use Rattle.parser.proofs.HeadRules.{name-given}
+use Rattle.parser.proofs.parts.params_list.Statement.{statement}
+use Rattle.parser.proofs.parts.params_list.Tie as tie
+
+abbrev Inv-loop : tie.InvT-loop
+Inv-loop source records₀ n texts₀ x t₀ m₀ y₀ count₀ records texts t m y count = Listing (untilStep (eat ">") comma (λ _. parseIdentifier)) (nodesOf (nameBranch 4)) source t₀ 0 (lent n records₀ x texts₀) t (lent m records y texts) count
+
+abbrev μ-loop : tie.MeasureT-loop
+μ-loop source records₀ n texts₀ x t₀ m₀ y₀ count₀ records texts t m y count = size (stream source t)
+
+loop-holds : tie.Need-loop-holds Inv-loop μ-loop
+loop-holds c = listing-start _ _ _ _ _ _ (c .before .before .before .pre .lies)
+
+opening-requires : tie.Need-opening-requires Inv-loop μ-loop
+opening-requires c κs = (c .loop .inv .onward .lies, omega arith)
+
+enum-known-u : tie.Need-enum-known-u Inv-loop μ-loop
+enum-known-u c = search needs
+
+same-length : tie.Need-same-length Inv-loop μ-loop
+same-length c = omega (arith, c .before .before .before .before .loop .inv .lays .stores .same-words)
+
+same-length-2 : tie.Need-same-length-2 Inv-loop μ-loop
+same-length-2 c = omega (arith, c .before .before .before .before .loop .inv .lays .stores .same-texts)
+
+returns : tie.Need-returns Inv-loop μ-loop
+returns c = list-closed ">" Must (λ _. parseIdentifier) (c .before .before .before .before .loop .inv) _ (c .before .before .before .opening .ensures) (c .before .u .given .1) (omega arith)
+
+enum-known-cause : tie.Need-enum-known-cause Inv-loop μ-loop
+enum-known-cause c = search needs
+
+same-length-3 : tie.Need-same-length-3 Inv-loop μ-loop
+same-length-3 c = omega (arith, c .before .before .before .before .loop .inv .lays .stores .same-words)
+
+same-length-4 : tie.Need-same-length-4 Inv-loop μ-loop
+same-length-4 c = omega (arith, c .before .before .before .before .loop .inv .lays .stores .same-texts)
+
+returns-2 : tie.Need-returns-2 Inv-loop μ-loop
+returns-2 c = list-refused ">" Must (λ _. parseIdentifier) (c .before .before .before .before .loop .inv) _ (c .before .before .before .opening .ensures) (c .before .cause .given .1)
+
+enum-known-u-2 : tie.Need-enum-known-u-2 Inv-loop μ-loop
+enum-known-u-2 c = search needs
+
+parse-identifier-requires : tie.Need-parse-identifier-requires Inv-loop μ-loop
+parse-identifier-requires c κs = tt
+
+enum-known-cause-2 : tie.Need-enum-known-cause-2 Inv-loop μ-loop
+enum-known-cause-2 c = search needs
+
+same-length-5 : tie.Need-same-length-5 Inv-loop μ-loop
+same-length-5 c = omega (arith, c .before .before .before .before .before .before .before .before .loop .inv .lays .stores .same-words)
+
+same-length-6 : tie.Need-same-length-6 Inv-loop μ-loop
+same-length-6 c = omega (arith, c .before .before .before .before .before .before .before .before .loop .inv .lays .stores .same-texts)
+
+returns-3 : tie.Need-returns-3 Inv-loop μ-loop
+returns-3 c = item-refused ">" Must (λ _. parseIdentifier) (c .before .before .before .before .before .before .before .before .loop .inv) _ (c .before .before .before .before .before .before .before .opening .ensures) (c .before .before .before .before .before .u2 .given .1) _ refl (c .before .before .before .before .before .before .before .before .loop .records) (c .before .before .before .before .before .before .before .before .loop .texts) (P.Refused (c .before .cause2 .given .0 .0) _) (taken-not _ _ _ (c .before .before .before .parse-identifier .ensures .takes) (c .before .cause2 .given .1)) refl
+
+enum-known-a : tie.Need-enum-known-a Inv-loop μ-loop
+enum-known-a c = search needs
+
+sub-put-named : tie.Need-sub-put-named Inv-loop μ-loop
+sub-put-named c = (name-got _ _ ((item-onward ">" (c .before .before .before .before .before .before .before .opening .ensures) (c .before .before .before .before .before .u2 .given .1)) .lies) (c .before .a .given .1) (c .before .before .before .parse-identifier .ensures)) .0 .part .forth
+
+part-put-named-start : tie.Need-part-put-named-start Inv-loop μ-loop
+part-put-named-start c = (name-got _ _ ((item-onward ">" (c .before .before .before .before .before .before .before .opening .ensures) (c .before .before .before .before .before .u2 .given .1)) .lies) (c .before .a .given .1) (c .before .before .before .parse-identifier .ensures)) .0 .part .forth
+
+part-put-named-end : tie.Need-part-put-named-end Inv-loop μ-loop
+part-put-named-end c = (name-got _ _ ((item-onward ">" (c .before .before .before .before .before .before .before .opening .ensures) (c .before .before .before .before .before .u2 .given .1)) .lies) (c .before .a .given .1) (c .before .before .before .parse-identifier .ensures)) .0 .part .inside
+
+start-requires : tie.Need-start-requires Inv-loop μ-loop
+start-requires c κs = tt
+
+put-named-requires : tie.Need-put-named-requires Inv-loop μ-loop
+put-named-requires c κs = let r = ready-step (ready-on (c .before .before .before .before .before .before .before .before .before .before .before .before .before .before .before .before .pre) (c .before .before .before .before .before .before .before .before .before .before .before .before .loop .inv .onward) (c .before .before .before .before .before .before .before .before .before .before .before .before .loop .inv .lays)) (item-onward ">" (c .before .before .before .before .before .before .before .before .before .before .before .opening .ensures) (c .before .before .before .before .before .before .before .before .before .u2 .given .1)) in put-asks r r (c .before .before .start .ensures) (omega arith) (part-short _ ((name-got _ _ ((item-onward ">" (c .before .before .before .before .before .before .before .before .before .before .before .opening .ensures) (c .before .before .before .before .before .before .before .before .before .u2 .given .1)) .lies) (c .before .before .before .before .before .a .given .1) (c .before .before .before .before .before .before .before .parse-identifier .ensures)) .0 .part))
+
+add-count : tie.Need-add-count Inv-loop μ-loop
+add-count c = omega (arith, listing-small (nameBranch 4) (c .before .before .before .before .before .before .before .before .before .before .before .before .before .before .before .before .before .loop .inv) (c .before .before .before .before .before .before .before .before .before .before .before .before .before .before .before .before .before .before .before .before .before .pre .small) (omega arith))
+
+loop-less : tie.Need-loop-less Inv-loop μ-loop
+loop-less c = omega (arith, item-more ">" Must (λ _. parseIdentifier) (c .before .before .before .before .before .before .before .before .before .before .before .before .before .before .before .before .before .loop .inv) _ (c .before .before .before .before .before .before .before .before .before .before .before .before .before .before .before .before .opening .ensures) (c .before .before .before .before .before .before .before .before .before .before .before .before .before .before .u2 .given .1) _ refl _ _ (P.Done _ _ _) (name-given 4 _ _ ((item-onward ">" (c .before .before .before .before .before .before .before .before .before .before .before .before .before .before .before .before .opening .ensures) (c .before .before .before .before .before .before .before .before .before .before .before .before .before .before .u2 .given .1)) .lies) _ (c .before .before .before .before .before .before .before .before .before .before .before .before .parse-identifier .ensures) (c .before .before .before .before .before .before .before .before .before .before .a .given .1) (c .before .before .before .before .before .before .before .start .ensures) (c .before .before .before .before .put-named .ensures)) refl .0 .fewer)
+
+loop-again : tie.Need-loop-again Inv-loop μ-loop
+loop-again c = item-more ">" Must (λ _. parseIdentifier) (c .before .before .before .before .before .before .before .before .before .before .before .before .before .before .before .before .before .loop .inv) _ (c .before .before .before .before .before .before .before .before .before .before .before .before .before .before .before .before .opening .ensures) (c .before .before .before .before .before .before .before .before .before .before .before .before .before .before .u2 .given .1) _ refl _ _ (P.Done _ _ _) (name-given 4 _ _ ((item-onward ">" (c .before .before .before .before .before .before .before .before .before .before .before .before .before .before .before .before .opening .ensures) (c .before .before .before .before .before .before .before .before .before .before .before .before .before .before .u2 .given .1)) .lies) _ (c .before .before .before .before .before .before .before .before .before .before .before .before .parse-identifier .ensures) (c .before .before .before .before .before .before .before .before .before .before .a .given .1) (c .before .before .before .before .before .before .before .start .ensures) (c .before .before .before .before .put-named .ensures)) refl .1
+
+pub params-list-spec : {M : Type 1} → statement M
+params-list-spec =
+    tie.close
+    (tie.spec
+    Inv-loop
+    μ-loop
+    loop-holds
+    opening-requires
+    enum-known-u
+    same-length
+    same-length-2
+    returns
+    enum-known-cause
+    same-length-3
+    same-length-4
+    returns-2
+    enum-known-u-2
+    parse-identifier-requires
+    enum-known-cause-2
+    same-length-5
+    same-length-6
+    returns-3
+    enum-known-a
+    sub-put-named
+    part-put-named-start
+    part-put-named-end
+    start-requires
+    put-named-requires
+    add-count
+    loop-less
+    loop-again)

@@ -1,0 +1,77 @@
+-- `parts::parse_class` meets its contract.
+-- Assumes nothing.
+use native.Mathlib.Omega.{arith}
+use Rattle.parser.proofs.Ready.{arrived-not}
+use Rattle.parser.proofs.PartRules.{plain-asks, named-some, named-none, class-none, class-refused, class-yields}
+use borrow.Author.Needs.{needs}
+use Rattle.parser.proofs.parts.parse_class.Statement.{statement}
+use Rattle.parser.proofs.parts.parse_class.Tie as tie
+
+sub-class-from-name : tie.Need-sub-class-from-name
+sub-class-from-name c = c .before .before .before .pre .2 .forth
+
+part-class-from-name-start : tie.Need-part-class-from-name-start
+part-class-from-name-start c = c .before .before .before .pre .2 .forth
+
+part-class-from-name-end : tie.Need-part-class-from-name-end
+part-class-from-name-end c = c .before .before .before .pre .2 .inside
+
+class-from-name-requires : tie.Need-class-from-name-requires
+class-from-name-requires c κs = c .before .before .before .before .pre .2 .bytes
+
+enum-known-class : tie.Need-enum-known-class
+enum-known-class c = search needs
+
+enum-told : tie.Need-enum-told
+enum-told c = search needs
+
+start-requires : tie.Need-start-requires
+start-requires c κs = search needs
+
+returns : tie.Need-returns
+returns c = class-none _ _ _ (named-none _ (c .before .before .before .class-from-name .ensures) (c .before .enum-told .given .1)) (c .start .ensures)
+
+next-requires : tie.Need-next-requires
+next-requires c κs = search needs
+
+enum-known-cause : tie.Need-enum-known-cause
+enum-known-cause c = search needs
+
+enum-known-u : tie.Need-enum-known-u
+enum-known-u c = search needs
+
+class-value-requires : tie.Need-class-value-requires
+class-value-requires c κs = search needs
+
+put-plain-requires : tie.Need-put-plain-requires
+put-plain-requires c κs = plain-asks (c .before .before .before .before .before .before .before .before .before .before .before .before .before .before .pre .0) (c .before .before .before .before .before .before .before .before .before .before .before .before .before .before .pre .3) (omega arith)
+
+returns-2 : tie.Need-returns-2
+returns-2 c = class-refused _ _ (named-some _ (c .before .before .before .before .before .before .before .class-from-name .ensures) (c .before .before .before .before .before .class .given .1)) (arrived-not _ _ (c .before .before .before .next .ensures .0) (c .before .cause .given .1))
+
+same-length : tie.Need-same-length
+same-length c = search needs
+
+returns-3 : tie.Need-returns-3
+returns-3 c = class-yields _ _ (c .before .before .before .before .before .before .before .before .before .before .before .before .before .before .before .before .before .pre .0) (c .before .before .before .before .before .before .before .before .before .before .before .before .before .before .before .before .before .pre .1) _ (c .before .before .before .before .before .before .before .before .next .ensures) (c .before .before .before .before .before .before .u .given .1) (named-some _ (c .before .before .before .before .before .before .before .before .before .before .before .before .class-from-name .ensures) (c .before .before .before .before .before .before .before .before .before .before .class .given .1)) (c .before .before .before .before .before .before .before .before .before .before .before .before .before .before .before .before .before .pre .3) (c .before .before .before .class-value .ensures) (c .before .before .put-plain .ensures)
+
+pub parse-class-spec : {M : Type 1} → statement M
+parse-class-spec =
+    tie.close
+    (tie.spec
+    sub-class-from-name
+    part-class-from-name-start
+    part-class-from-name-end
+    class-from-name-requires
+    enum-known-class
+    enum-told
+    start-requires
+    returns
+    next-requires
+    enum-known-cause
+    enum-known-u
+    class-value-requires
+    put-plain-requires
+    returns-2
+    same-length
+    returns-3)
