@@ -14,3 +14,8 @@ pub mod SequenceRules
 pub mod Shown
 pub mod PartRules
 pub mod HeadRules
+pub mod Took
+pub mod Yielded
+pub mod Marks
+pub mod Itemizing
+pub mod InnerLaws

@@ -82,7 +82,7 @@ pub record Listing {A : Type 0} (step : List A → Parser ℕ (Option A)) (g : A
   pub lays : Lays s t₀ t k (flat g items) a b
 
 module _ {A : Type 0} (step : List A → Parser ℕ (Option A)) (g : A → List Node) (s : List ℕ) where
-  pub listing-start : (t : Current) (k : ℕ) (a : Lent) → LiesIn s 0 t → Listing step g s t k a t a 0
+  unfoldable pub listing-start : (t : Current) (k : ℕ) (a : Lent) → LiesIn s 0 t → Listing step g s t k a t a 0
   listing-start t k a h =
       record {
         items = [];
@@ -95,7 +95,7 @@ module _ {A : Type 0} (step : List A → Parser ℕ (Option A)) (g : A → List 
 module _ {A : Type 0} {step : List A → Parser ℕ (Option A)} {g : A → List Node} {s : List ℕ} {t₀ : Current} {k : ℕ} {a : Lent} {t : Current} {b : Lent} {count : ℕ}
     (l : Listing step g s t₀ k a t b count) where
   -- one item more. It may take no token if it is the first, and have slack if it is, or if a token stands before it
-  pub listing-more : {v : A} {u : Current} {c : Lent} → step (l .items) (stream s t) ≡ read (some v) (stream s u) → Onward s t u 0
+  unfoldable pub listing-more : {v : A} {u : Current} {c : Lent} → step (l .items) (stream s t) ≡ read (some v) (stream s u) → Onward s t u 0
       → size (stream s u) + (1 - (count + 1)) < size (stream s t) + (1 - count)
       → Stores (g v) b c → (count ≡ 0 → length (g v) + 2 * placed s t ≤ 2 * placed s u + k) → (0 < count → length (g v) + 2 * placed s t ≤ 2 * placed s u)
       → length (textsOf (g v)) + 3 * placed s t ≤ 3 * placed s u → Listing step g s t₀ k a u c (count + 1)
@@ -128,8 +128,9 @@ module _ {A : Type 0} {step : List A → Parser ℕ (Option A)} {g : A → List 
       bounded (i ∷ is) (suc d) z p w n first later = let y = later (omega arith) in omega arith
 
   -- one that takes a token, without slack
-  pub listing-turn : {v : A} {u : Current} {c : Lent} → step (l .items) (stream s t) ≡ read (some v) (stream s u) → Onward s t u 1 → Lays s t u 0 (g v) b c
+  unfoldable pub listing-turn : {v : A} {u : Current} {c : Lent} → step (l .items) (stream s t) ≡ read (some v) (stream s u) → Onward s t u 1 → Lays s t u 0 (g v) b c
       → Listing step g s t₀ k a u c (count + 1)
+  unfolding listing-more
   listing-turn e o y =
       let f = o .fewer in
       let p = y .bound in
@@ -148,7 +149,7 @@ module _ {A : Type 0} {step : List A → Parser ℕ (Option A)} {g : A → List 
       }
 
   -- no more
-  pub listing-over : step (l .items) (stream s t) ≡ read none (stream s t) → k ≡ 0 → Lists (loop step (stream s t₀)) g s t₀ 0 a t b count
+  unfoldable pub listing-over : step (l .items) (stream s t) ≡ read none (stream s t) → k ≡ 0 → Lists (loop step (stream s t₀)) g s t₀ 0 a t b count
   listing-over e h =
       record {
         items = l .items;

@@ -17,7 +17,7 @@ use Rattle.lexer.specs.Promise.{partOf}
 use Rattle.lexer.specs.Escapes.{decodeString}
 use Rattle.tree.specs.CharClasses.{fromName}
 use Rattle.tree.specs.Promise.{classOf, repeatOf, markerOf}
-use Rattle.tree.specs.Records.{Node, nodes}
+use Rattle.tree.specs.Records.{Node, nodes, textsOf}
 use Rattle.tree.specs.Syntax.{Identifier, Prop, Expression, Expressions, CharClass, ConflictMarker, ConflictMarkerKind, RepeatKind, startOf, expressions}
 use Rattle.tree.specs.Stored.{propBranch, nameBranch, expressionBranch, markerBranch, repeatValue}
 use Rattle.parser.specs.Limits.{repeats}
@@ -111,6 +111,16 @@ pub record Yields (D : Answer ℕ (Expression ℕ)) (s : List ℕ) (t : Current)
 abbrev pub Expresses : Answer ℕ (Expression ℕ) → List ℕ → Current → (step slack : ℕ) → Lent → (words texts : List ℕ) → Expressed → Type 0
 Expresses D s t step slack a ws ts (E.Done u n x p shape) = Yields D s t step slack a u (lent n ws x ts) p shape
 Expresses D s t step slack a ws ts (E.Refused c p) = D ≡ refused (causeNumber c) p
+
+-- an expression in braces, which have no node and no text
+pub record YieldsBraced (D : Answer ℕ (Expression ℕ)) (s : List ℕ) (t : Current) (a : Lent) (u : Current) (b : Lent) (p : ℕ) (shape : Shape) : Type 0 where
+  pub yields : Yields D s t 2 0 a u b p shape
+  pub few : length (nodes (expressionBranch (yields .tree))) + 2 * placed s t + 2 ≤ 2 * placed s u
+  pub short : length (textsOf (nodes (expressionBranch (yields .tree)))) + 3 * placed s t + 6 ≤ 3 * placed s u
+
+abbrev pub ExpressesBraced : Answer ℕ (Expression ℕ) → List ℕ → Current → Lent → (words texts : List ℕ) → Expressed → Type 0
+ExpressesBraced D s t a ws ts (E.Done u n x p shape) = YieldsBraced D s t a u (lent n ws x ts) p shape
+ExpressesBraced D s t a ws ts (E.Refused c p) = D ≡ refused (causeNumber c) p
 
 -- ------------------------------------------------------------------ repeats
 
@@ -233,6 +243,11 @@ IsToken (End p) = ⊥
 abbrev pub IsSet : Current → (inverted : Bool) → (a e : ℕ) → Type 0
 IsSet (Token k start end) i a e = k ≡ K.Set i a e
 IsSet (End p) i a e = ⊥
+
+-- this mark
+abbrev pub IsMark : Current → (c : ℕ) → Type 0
+IsMark (Token k start end) c = k ≡ K.Punctuation c
+IsMark (End p) c = ⊥
 
 -- the token t was taken, and u comes behind it
 pub record Behind (s : List ℕ) (t u : Current) : Type 0 where

@@ -2,6 +2,7 @@
 pub mod store; // records and texts in what is lent
 pub mod props; // lists and props
 pub mod parts; // parts of rules and expressions
+pub mod expressions; // expressions
 
 use error::Cause;
 use lexer::Kind;
@@ -195,7 +196,7 @@ fn says(source: &[u8], part: Part, word: &[u8]) -> bool
 }
 
 // The current token is taken if it is this name.
-fn eat_identifier_value(source: &[u8], token: Current, word: &[u8]) -> Eaten
+pub fn eat_identifier_value(source: &[u8], token: Current, word: &[u8]) -> Eaten
     requires { ⌜ Whole (now source) (nameOf token) ⌝ }
     ensures { λ r. ⌜ EatsName (now (source .entry)) token (now (word .entry)) r ⌝ }
 {
@@ -203,7 +204,7 @@ fn eat_identifier_value(source: &[u8], token: Current, word: &[u8]) -> Eaten
 }
 
 // The current token is taken if it is `@` and this word.
-fn eat_at(source: &[u8], token: Current, word: &[u8]) -> Eaten
+pub fn eat_at(source: &[u8], token: Current, word: &[u8]) -> Eaten
     requires { ⌜ Whole (now source) (atOf token) ⌝ }
     ensures { λ r. ⌜ EatsAt (now (source .entry)) token (now (word .entry)) r ⌝ }
 {

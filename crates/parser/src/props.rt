@@ -53,7 +53,7 @@ pub enum Comma {
 }
 
 // What stands between two items.
-fn between(source: &[u8], token: Current, comma: Comma) -> Arrived
+pub fn between(source: &[u8], token: Current, comma: Comma) -> Arrived
     requires { ⌜ LiesIn (now source) 0 token ⌝ }
     ensures { λ r. ⌜ Separates (now (source .entry)) token (betweenBy comma) (commaStep comma) r ⌝ }
 {
