@@ -3,14 +3,19 @@
 //
 // A text may be any bytes, and a place any number. From a place the characters go on to the first ill-formed sequence, so the others
 // are asked of that part of the text alone.
+mod causes;
 mod error;
+mod least;
 mod node;
 mod parse;
+mod random;
 mod second;
 
+use least::least;
+use random::Random;
 use std::fmt::Debug;
 use std::hint::black_box;
-use std::time::{Duration, Instant};
+use std::time::Duration;
 
 // parse.rs asks for it at the crate's root.
 pub use error::GeneratorError;
@@ -43,21 +48,6 @@ fn parse_set_ranges(body: &[u8], out: &mut [u32]) -> Result<usize, u64> {
 }
 
 // -------------------------------------------------------------------- texts from a seed
-
-struct Random(u64);
-
-impl Random {
-    fn below(&mut self, n: usize) -> usize {
-        self.0 ^= self.0 << 13;
-        self.0 ^= self.0 >> 7;
-        self.0 ^= self.0 << 17;
-        (self.0 >> 11) as usize % n
-    }
-
-    fn pick<'a>(&mut self, of: &[&'a str]) -> &'a str {
-        of[self.below(of.len())]
-    }
-}
 
 const PIECES: [&str; 64] = [
     " ", "\n", "\t", "\r", "\u{b}", "\u{a0}", "\u{2028}", "\u{2029}", "\u{feff}", "\u{85}", "\u{3000}", "//", "/*", "*/", "/", "*",
@@ -261,23 +251,13 @@ fn distinct(n: usize, order: usize) -> Vec<char> {
         0 => {}
         1 => chars.reverse(),
         _ => {
-            let mut random = Random(0x2545_F491_4F6C_DD1D);
+            let mut random = Random::of(1);
             for i in (1..n).rev() {
                 chars.swap(i, random.below(i + 1));
             }
         }
     }
     chars
-}
-
-// The shortest of some runs.
-fn time<T>(runs: usize, mut work: impl FnMut() -> T) -> Duration {
-    let timed = |_| {
-        let start = Instant::now();
-        black_box(work());
-        start.elapsed()
-    };
-    (0..runs).map(timed).min().expect("a run")
 }
 
 fn ratio(what: &str, ours: Duration, theirs: Duration) {
@@ -301,16 +281,16 @@ fn times() {
         let body: String = distinct(n, order).iter().collect();
         ratio(
             &format!("one set of {n} characters, {name}"),
-            time(5, || parse_set_ranges(body.as_bytes(), &mut out)),
-            time(3, || parse::set_ranges(&body)),
+            least(5, 1, || parse_set_ranges(body.as_bytes(), &mut out)),
+            least(3, 1, || parse::set_ranges(&body)),
         );
     }
     for n in [1, 2, 4, 8, 16, 17, 20, 32, 64, 128, 256, 257, 300, 512, 1024, 4096] {
         for (order, name) in ["ascending", "descending", "in no order"].iter().enumerate() {
             let body: String = distinct(n, order).iter().collect();
             let count = room / (body.len() + 4);
-            let ours = time(7, || (0..count).map(|_| parse_set_ranges(black_box(body.as_bytes()), &mut out)).filter(Result::is_ok).count());
-            let theirs = time(5, || (0..count).map(|_| parse::set_ranges(black_box(&body))).filter(Result::is_ok).count());
+            let ours = least(7, 1, || (0..count).map(|_| parse_set_ranges(black_box(body.as_bytes()), &mut out)).filter(Result::is_ok).count());
+            let theirs = least(5, 1, || (0..count).map(|_| parse::set_ranges(black_box(&body))).filter(Result::is_ok).count());
             ratio(&format!("{count} sets of {n}, {name}"), ours, theirs);
         }
     }
@@ -318,8 +298,8 @@ fn times() {
     let count = room / (wide.len() + 4);
     ratio(
         &format!("{count} sets of a wide span and 600 codes"),
-        time(7, || (0..count).map(|_| parse_set_ranges(black_box(wide.as_bytes()), &mut out)).filter(Result::is_ok).count()),
-        time(5, || (0..count).map(|_| parse::set_ranges(black_box(&wide))).filter(Result::is_ok).count()),
+        least(7, 1, || (0..count).map(|_| parse_set_ranges(black_box(wide.as_bytes()), &mut out)).filter(Result::is_ok).count()),
+        least(5, 1, || (0..count).map(|_| parse::set_ranges(black_box(&wide))).filter(Result::is_ok).count()),
     );
     let rule = "rule { \"key\\n\" (Other | $[a-zA-Z_]+ !eq)* ~amb @specialize<id, 'x'> } // a comment\n/* and one more */\n";
     let grammar = rule.repeat(65_535 / rule.len());
@@ -346,13 +326,13 @@ fn times() {
         }
     };
     assert_eq!(ours(), theirs());
-    ratio(&format!("{} tokens of {} bytes", ours(), grammar.len()), time(20, ours), time(20, theirs));
+    ratio(&format!("{} tokens of {} bytes", ours(), grammar.len()), least(20, 1, ours), least(20, 1, theirs));
     let long: String = "an ordinary text \\n with \\u{e9} and \\\" in it, é中. ".repeat(1000);
     let mut bytes = vec![0; long.len()];
     ratio(
         &format!("a string of {} bytes", long.len()),
-        time(20, || decode_string(long.as_bytes(), &mut bytes)),
-        time(20, || parse::string_value(&long)),
+        least(20, 1, || decode_string(long.as_bytes(), &mut bytes)),
+        least(20, 1, || parse::string_value(&long)),
     );
 }
 
@@ -360,7 +340,7 @@ fn main() {
     let numbers: Vec<u64> = std::env::args().skip(1).filter_map(|word| word.parse().ok()).collect();
     let count = numbers.first().copied().unwrap_or(2_000_000);
     let seed = numbers.get(1).copied().unwrap_or(1);
-    let mut random = Random(seed.wrapping_mul(0x9E37_79B9_7F4A_7C15) | 1);
+    let mut random = Random::of(seed);
     println!("seed {seed}");
     let differ = pairs(&mut random, count) + strings(&mut random, count / 4) + sets(&mut random, count / 4);
     times();
