@@ -4,12 +4,14 @@ mod least;
 mod node;
 mod parse;
 mod random;
+mod tally;
 
 // parse.rs asks for it at the crate's root.
 pub use error::GeneratorError;
 use parse::held;
 use random::Random;
 use std::hint::black_box;
+use tally::Tally;
 
 #[allow(improper_ctypes)]
 unsafe extern "C" {
@@ -27,51 +29,6 @@ unsafe extern "C" {
     fn characters_is_word(code: u32) -> bool;
     fn characters_is_ecmascript_whitespace(code: u32) -> bool;
     fn characters_is_line_terminator(code: u32) -> bool;
-}
-
-struct Tally {
-    what: &'static str,
-    held: u64,
-    differ: u64,
-}
-
-impl Tally {
-    fn new(what: &'static str) -> Self {
-        Tally {
-            what,
-            held: 0,
-            differ: 0,
-        }
-    }
-
-    fn same<T: PartialEq + std::fmt::Debug>(
-        &mut self,
-        ours: T,
-        theirs: T,
-        on: impl FnOnce() -> String,
-    ) {
-        self.held += 1;
-        if ours != theirs {
-            self.differ += 1;
-            if self.differ <= 5 {
-                println!(
-                    "{}: {} gives {:?}, Rust {:?}",
-                    self.what,
-                    on(),
-                    ours,
-                    theirs
-                );
-            }
-        }
-    }
-
-    fn done(self) -> u64 {
-        println!(
-            "{:<26} {:>9} held against Rust, {} differ",
-            self.what, self.held, self.differ
-        );
-        self.differ
-    }
 }
 
 trait Bytes {

@@ -10,12 +10,13 @@ mod node;
 mod parse;
 mod random;
 mod second;
+mod tally;
 
 use least::least;
 use random::Random;
-use std::fmt::Debug;
 use std::hint::black_box;
 use std::time::Duration;
+use tally::Tally;
 
 // parse.rs asks for it at the crate's root.
 pub use error::GeneratorError;
@@ -87,37 +88,6 @@ fn body(random: &mut Random) -> String {
 
 // -------------------------------------------------------------------- what is held against what
 
-struct Tally {
-    what: &'static str,
-    held: u64,
-    differ: u64,
-}
-
-impl Tally {
-    fn new(what: &'static str) -> Self {
-        Tally {
-            what,
-            held: 0,
-            differ: 0,
-        }
-    }
-
-    fn same<T: PartialEq + Debug>(&mut self, ours: T, theirs: T, on: &dyn Debug) {
-        self.held += 1;
-        if ours != theirs {
-            self.differ += 1;
-            if self.differ < 10 {
-                println!("{}: {ours:?}, not {theirs:?}, on {on:?}", self.what);
-            }
-        }
-    }
-
-    fn close(self) -> u64 {
-        println!("{:<40} {:>9} held, {} differ", self.what, self.held, self.differ);
-        self.differ
-    }
-}
-
 // What the lexer answers, in the words of the others: a string's value and not its part.
 fn seen(source: &[u8], from: usize) -> Seen {
     let [kind, start, end, a, e, extra] = next(source, from);
@@ -161,12 +131,12 @@ fn pairs(random: &mut Random, count: u64) -> u64 {
         for from in 0..text.len() + 3 {
             let rest = well_formed(text.get(from..).unwrap_or_default());
             let ours = seen(&text, from);
-            let on = (String::from_utf8_lossy(&text), from);
-            rust.same(ours.clone(), moved(parse::next_at(rest, 0), from), &on);
-            program.same(ours, moved(second::first_token(rest), from), &on);
+            let on = || format!("{:?}", (String::from_utf8_lossy(&text), from));
+            rust.same(ours.clone(), moved(parse::next_at(rest, 0), from), on);
+            program.same(ours, moved(second::first_token(rest), from), on);
         }
     }
-    rust.close() + program.close()
+    rust.done() + program.done()
 }
 
 // The bytes that are written where each character is written that fits.
@@ -189,10 +159,10 @@ fn strings(random: &mut Random, count: u64) -> u64 {
         for room in [0, value.len() / 2, value.len().saturating_sub(1), value.len(), value.len() + 2] {
             let mut out = vec![0xEE; room];
             let length = decode_string(body.as_bytes(), &mut out);
-            tally.same((length, out), (value.len(), written(&value, room)), &body);
+            tally.same((length, out), (value.len(), written(&value, room)), || format!("{body:?}"));
         }
     }
-    tally.close()
+    tally.done()
 }
 
 fn set(tally: &mut [Tally; 2], body: &str) {
@@ -207,7 +177,7 @@ fn set(tally: &mut [Tally; 2], body: &str) {
                     words[2 * i..2 * i + 2].copy_from_slice(&[first, past]);
                 }
             }
-            tally.same((ours, out), (theirs.clone().map(|spans| spans.len()), words), &body);
+            tally.same((ours, out), (theirs.clone().map(|spans| spans.len()), words), || format!("{body:?}"));
         }
     }
 }
@@ -235,7 +205,7 @@ fn sets(random: &mut Random, count: u64) -> u64 {
             }
         }
     }
-    tally.map(Tally::close).iter().sum()
+    tally.map(Tally::done).iter().sum()
 }
 
 // -------------------------------------------------------------------- times
