@@ -125,8 +125,8 @@ impl Lent {
             self.texts[..m].copy_from_slice(&self.fresh_texts[..m]);
             return Ok(answer[0] as usize);
         };
-        self.words.clone_from(&self.fresh_words);
-        self.texts.clone_from(&self.fresh_texts);
+        self.words[..end].copy_from_slice(&self.fresh_words[..end]);
+        self.texts[..end_bytes].copy_from_slice(&self.fresh_texts[..end_bytes]);
         Err(format!("{wrong}; lent {words} words and {bytes} bytes"))
     }
 

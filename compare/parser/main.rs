@@ -30,6 +30,8 @@ use std::time::{Duration, Instant};
 
 /// The causes that reading can give, and 0 for a tree.
 const CAUSES: usize = 24;
+/// After so many differences the rest of a family is left out.
+const ENOUGH: u64 = 1000;
 
 // -------------------------------------------------------------------- families of texts
 
@@ -47,6 +49,9 @@ impl Run {
         let before = self.texts;
         let (mut held, mut differ, mut smallest) = (0, 0, None::<Vec<u8>>);
         texts(&mut |text| {
+            if differ == ENOUGH {
+                return;
+            }
             held += 1;
             match self.lent.hold(text) {
                 Ok(seen) => {
@@ -186,7 +191,8 @@ fn hold(list: &str, seed: u64, count: u64) -> bool {
     run.family(&format!("texts of seed {seed}"), |mut on| texts::seeded(seed, count, &hand, &mut on));
     tally("texts", &run.texts);
     tally("calls", &run.calls);
-    println!("{} texts, {} calls, {} texts differ", run.texts.iter().sum::<u64>() + run.differ, run.calls.iter().sum::<u64>(), run.differ);
+    let texts = run.texts.iter().sum::<u64>() + run.differ;
+    println!("{texts} texts, {} calls, {} texts differ", run.calls.iter().sum::<u64>(), run.differ);
     let never: Vec<_> = (0..CAUSES).filter(|&cause| run.calls[cause] == 0).collect();
     if !never.is_empty() {
         println!("never answered: {never:?}");
