@@ -487,9 +487,9 @@ size-one c cs = length-append (encode c) (encodeAll cs)
 
 module _ (body out₀ out : List ℕ) (at n : ℕ) (d : Decoding body out₀ out at n) where
   pub decoded : valueAt body at ≡ []
-      → (n ≡ length (encodeAll (decodeString (codes body)))) × (out ≡ writtenAll out₀ 0 (decodeString (codes body)))
+      → (n ≡ length (encodeAll (decodeString (codes body)))) × (out ≡ writtenAll out₀ 0 (decodeString (codes body))) × (n ≤ length body)
   unfolding valueAt atomsAt writtenAll decodeString encodeAll
-  decoded e = (let k = rw e at (d .size) in omega arith, rw e at (d .bytes))
+  decoded e = (let k = rw e at (d .size) in omega arith, rw e at (d .bytes), let i = d .inside in let f = d .few in omega arith)
 
   pub step : (out′ : List ℕ) (c end r : ℕ) → Value body at c end → (r ≡ length (scalarBytes c)) × (out′ ≡ written out n (scalarBytes c))
       → Decoding body out₀ out′ end (n + r)

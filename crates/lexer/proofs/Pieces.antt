@@ -2,7 +2,7 @@
 -- Assumes nothing.
 use mathlib.Core.Path.{_≡_, refl, sym, _∙_, ap, ap₂, subst}
 use mathlib.Core.Bool.{Bool, true, false, _&&_}
-use mathlib.Core.List.{List, _∷_}
+use mathlib.Core.List.{List, _∷_, []}
 use mathlib.Core.Option.{Option, none, some}
 use Prim.Native.Nat.{ℕ, zero, suc, _+_, _-_, _≤_, _<_}
 use native.Mathlib.Omega.{arith}
@@ -51,6 +51,14 @@ not-got at cs (some k) h = cc
 part-of : {s : List ℕ} {a k e : ℕ} → Run s a k e → Part s a e
 part-of r = record { forth = r .forth; inside = r .inside; bytes = r .bytes }
 
+-- one character more is no less
+past-step : (at k : ℕ) (cs : List ℕ) → past at k cs ≤ past at (suc k) cs
+unfolding past
+past-step at zero [] = omega arith
+past-step at zero (c ∷ cs) = omega arith
+past-step at (suc k) [] = omega arith
+past-step at (suc k) (c ∷ cs) = past-step (at + width c) k cs
+
 pub next-peek : (s : List ℕ) (at c : ℕ) → Next s at c → peekAt s at ≡ c
 unfolding peekAt
 next-peek s at c n = rw (n .chars)
@@ -65,7 +73,7 @@ module _ (s : List ℕ) (at : ℕ) (i : at + 1 ≤ length s) where
       let f = t .forth in
       record {
         tokens = ap₂ (λ (w : List ℕ) (m : Tokens ℕ). T.token (T.string w) at m) (sym (r .part)) (rw l (tokens-at s (at + 1) (suc k) i));
-        placed = (omega arith, omega arith, t .inside, (p, part-of r));
+        placed = (omega arith, omega arith, t .inside, (p, part-of r), (omega arith, past-step (at + 1) k (charsAt s (at + 1))));
       }
 
   string-open : {o : Option ℕ} → o ≡ none → Lexes s at 1 (stringOf (charsAt s (at + 1)) o) (Refused UnterminatedString at)
@@ -85,7 +93,7 @@ module _ (s : List ℕ) (at : ℕ) (i : at + 1 ≤ length s) where
       record {
         tokens = ap₂ (λ (w : List ℕ) (m : Tokens ℕ). T.token (T.set x w) at m)
             (rw (n .chars, g) (sym (r .part))) (rw q (z ∙ tokens-at s (at + 2) (suc k) j′));
-        placed = (omega arith, omega arith, t .inside, part-of r);
+        placed = (omega arith, omega arith, t .inside, part-of r, (omega arith, past-step (at + 2) k (charsAt s (at + 2))));
       }
 
   pub string-done : (q e end : ℕ) → peekAt s at ≡ q → At e end ≡ endOf isLineTerminator q s (at + 1) false
@@ -118,7 +126,7 @@ module _ (s : List ℕ) (at : ℕ) (i : at + 1 ≤ length s) where
       let f = r .forth in
       record {
         tokens = ap₂ (λ (w : List ℕ) (m : Tokens ℕ). T.token (T.at w) at m) (sym (r .part)) (rw q (tokens-at s (at + 1) (suc k) i));
-        placed = (omega arith, omega arith, r .inside, part-of r);
+        placed = (omega arith, omega arith, r .inside, part-of r, (omega arith, omega arith));
       }
 
 -- a run ends where it begins only if it is empty
@@ -170,12 +178,12 @@ module _ (s : List ℕ) (at : ℕ) {c n : ℕ} (d : decodeAt s at ≡ Scalar c n
       let q : 1 + k - 1 ≡ k = omega arith in
       rw e (record {
         tokens = ap₂ (λ (l : List ℕ) (m : Tokens ℕ). T.token (T.name l) at m) (rw (codes-on s at d) at (sym (r .part))) (rw q (tokens-at s (at + n) k (f .1)));
-        placed = (omega arith, omega arith, r .inside, part-of r);
+        placed = (omega arith, omega arith, r .inside, part-of r, (omega arith, omega arith));
       })
 
   pub mark-lexes : Lexes s at n (T.token (T.mark c) 1) (Token (Punctuation c) at (at + n))
   unfolding tokensAt
-  mark-lexes = let f = scalar-fits s at d in record { tokens = refl; placed = (omega arith, omega arith, f .1, tt) }
+  mark-lexes = let f = scalar-fits s at d in record { tokens = refl; placed = (omega arith, omega arith, f .1, tt, tt) }
 
   pub nothing-lexes : Lexes s at n (T.bad unexpectedCharacter) (Refused UnexpectedCharacter at)
   nothing-lexes = record { tokens = refl; placed = tt }
@@ -255,6 +263,6 @@ unclosed s from p r h e = record { tokens = subst (Skipped s from) e h; placed =
 
 pub after : (s : List ℕ) (from at : ℕ) (r : Lexed) → from ≤ at → tokensAt s from ≡ tokensAt s at → Reads s at r → Reads s from r
 after s from at (Token k start end) h e p =
-    let q = p .placed in record { tokens = e ∙ p .tokens; placed = (omega arith, q .1, q .2, q .3) }
+    let q = p .placed in record { tokens = e ∙ p .tokens; placed = (omega arith, q .1, q .2, q .3, q .4) }
 after s from at (Eof x) h e p = record { tokens = e ∙ p .tokens; placed = tt }
 after s from at (Refused k x) h e p = record { tokens = e ∙ p .tokens; placed = tt }

@@ -87,8 +87,16 @@ Parted s start (Set i a e) = Part s a e
 Parted s start (Punctuation c) = Unit {0}
 Parted s start (Identifier a e) = Part s a e
 
+-- it lies between the token's start and end
+abbrev pub Inside : (start end : ℕ) → Kind → Type 0
+Inside start end (String q a e) = (start ≤ a) × (e ≤ end)
+Inside start end (At a e) = (start ≤ a) × (e ≤ end)
+Inside start end (Set i a e) = (start ≤ a) × (e ≤ end)
+Inside start end (Punctuation c) = Unit {0}
+Inside start end (Identifier a e) = (start ≤ a) × (e ≤ end)
+
 abbrev pub Placed : List ℕ → ℕ → Lexed → Type 0
-Placed s from (Token k start end) = (from ≤ start) × (start < end) × (end ≤ length s) × Parted s start k
+Placed s from (Token k start end) = (from ≤ start) × (start < end) × (end ≤ length s) × Parted s start k × Inside start end k
 Placed s from (Eof at) = Unit {0}
 Placed s from (Refused c at) = Unit {0}
 

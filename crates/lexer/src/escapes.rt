@@ -34,7 +34,7 @@ pub enum Atom {
 // Writes the value of a string's text into the part that is lent for it, each character where it fits, and counts its bytes in any
 // case.
 pub fn decode_string(body: &[u8], out: &mut [u8]) -> usize
-    ensures { λ r. ⌜ (r ≡ length (encodeAll (decodeString (codes (now (body .entry)))))) × (now (out .exit) ≡ writtenAll (now (out .entry)) 0 (decodeString (codes (now (body .entry))))) ⌝ }
+    ensures { λ r. ⌜ (r ≡ length (encodeAll (decodeString (codes (now (body .entry)))))) × (now (out .exit) ≡ writtenAll (now (out .entry)) 0 (decodeString (codes (now (body .entry))))) × (r ≤ length (now (body .entry))) ⌝ }
 {
     let mut cursor = 0;
     let mut n = 0;

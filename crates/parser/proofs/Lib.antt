@@ -1,3 +1,5 @@
 pub mod Turns
 pub mod Stream
 pub mod Classes
+pub mod Stored
+pub mod Spread

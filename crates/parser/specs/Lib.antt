@@ -4,3 +4,4 @@ pub mod Expressions
 pub mod Members
 pub mod Declarations
 pub mod Promise
+pub mod Storing

@@ -16,7 +16,7 @@ use Rattle.error.specs.declared.Cause.{Cause}
 use Rattle.error.specs.Promise.{causeNumber}
 use Rattle.lexer.specs.Tokens as T
 use Rattle.lexer.specs.Tokens.{Tokens}
-use Rattle.lexer.specs.Promise.{tokensAt, partOf, kindOf as kindIn, Parted, isPlain}
+use Rattle.lexer.specs.Promise.{tokensAt, partOf, kindOf as kindIn, Parted, Inside, isPlain}
 use Rattle.lexer.specs.Promise as L
 use Rattle.lexer.specs.Escapes.{decodeString}
 use Rattle.lexer.specs.declared.words.Class.{Class}
@@ -66,7 +66,7 @@ arrival s (Refused c p) = refused (causeNumber c) p
 
 -- the current token lies in the text, from a place on
 abbrev pub LiesIn : List ℕ → ℕ → Current → Type 0
-LiesIn s from (Token k start end) = (from ≤ start) × (start < end) × (end ≤ length s) × Parted s start k
+LiesIn s from (Token k start end) = (from ≤ start) × (start < end) × (end ≤ length s) × Parted s start k × Inside start end k
 LiesIn s from (End p) = Unit {0}
 
 abbrev pub Lies : List ℕ → ℕ → Arrived → Type 0

@@ -1,4 +1,6 @@
 // From the tokens of a text to the records of its tree.
+pub mod store; // records and texts in what is lent
+
 use error::Cause;
 use lexer::Kind;
 use lexer::Lexed;
