@@ -281,31 +281,55 @@ def pairs(seed, count):
     return found
 
 
-def bodies(seed, count):
-    """Pairs of texts whose only rule is a top rule, to compare their bodies: alike ones are common."""
+def body_like(rng, grammars, first):
+    """Another text with a top rule, made from one: its body is the same, nearly so, or any."""
+    inside = first[len("@top T{") : -1]
+    same = [
+        "@top T{(" + inside + ")}",
+        "@top T{ " + inside + "/**/}",
+        first.replace(" ", "\n "),
+        first.replace(",", " , "),
+        first.replace("()", '""'),
+        first.replace("[@", "["),
+        first.replace("[p", "[@p"),
+    ]
+    near = [
+        first.replace("()", ""),
+        first.replace("a", "b", 1),
+        first.replace("*", "+", 1),
+        first.replace("~", "!", 1),
+        first.replace("|", " ", 1),
+        first.replace(" ", " a ", 1),
+        first.replace("-", "", 1),
+        first.replace("<", "<a,", 1),
+        first.replace("{n}", "n", 1),
+        first.replace("=", "=.", 1),
+        "@top T{" + inside + "*}",
+        "@top T{a|" + inside + "}",
+        "@top T{" + grammars.expression(rng.randint(0, 2)) + "}",
+    ]
+    return rng.choice([text for text in rng.choice([same, near]) if text != first] or [first])
+
+
+def bodies(seed, count, met=None):
+    """Pairs of texts whose only rule is a top rule, to compare their bodies: half are made to be alike. No pair has one text twice,
+    and none comes twice, nor one of those already met."""
     rng = random.Random(seed)
     grammars = generate.Grammars(rng)
-    texts = []
-    while len(texts) < count:
-        made = []
-        for _ in range(400):
+    met = set() if met is None else met
+    found = []
+    while len(found) < count:
+        made = set()
+        for _ in range(4 * (count - len(found)) + 400):
             first = "@top T{" + grammars.expression(rng.randint(0, 4)) + "}"
-            second = rng.choice(
-                [
-                    first.replace("[", "[ ").replace("$[ ", "$[").replace("![ ", "!["),
-                    first.replace("@m", "m").replace("[p", "[@p").replace("[@a", "[a"),
-                    first.replace("()", '""'),
-                    first.replace("()", ""),
-                    first.replace("a", "b", 1),
-                    first.replace("*", "+", 1),
-                    first.replace("~", "!", 1),
-                    "@top T{(" + first[7:-1] + ")}",
-                    "@top T{" + grammars.expression(rng.randint(0, 2)) + "}",
-                ]
-            )
-            if len(first) < 120:
-                made.append((first.encode(), second.encode()))
+            second = body_like(rng, grammars, first)
+            if len(first) < 120 and first != second:
+                made.add((first.encode(), second.encode()))
+        made = sorted(made - met)
+        rng.shuffle(made)
         one = answers.second([pair[0] for pair in made])
         two = answers.second([pair[1] for pair in made])
-        texts += [pair for pair, a, b in zip(made, one, two) if a[0] == "T" and b[0] == "T"]
-    return texts[:count]
+        accepted = [pair for pair, a, b in zip(made, one, two) if a[0] == "T" and b[0] == "T"]
+        found += accepted[: count - len(found)]
+        met.update(found)
+    return found

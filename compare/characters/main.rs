@@ -1,13 +1,17 @@
 // Holds the proved functions of crates/characters against Rust's own, and measures both. Any difference is printed and fails the run.
 mod error;
+mod least;
 mod node;
 mod parse;
+mod random;
+mod tally;
 
 // parse.rs asks for it at the crate's root.
 pub use error::GeneratorError;
 use parse::held;
+use random::Random;
 use std::hint::black_box;
-use std::time::Instant;
+use tally::Tally;
 
 #[allow(improper_ctypes)]
 unsafe extern "C" {
@@ -27,62 +31,12 @@ unsafe extern "C" {
     fn characters_is_line_terminator(code: u32) -> bool;
 }
 
-struct Tally {
-    what: &'static str,
-    held: u64,
-    differ: u64,
+trait Bytes {
+    fn character(&mut self) -> char;
+    fn bytes(&mut self) -> Vec<u8>;
 }
 
-impl Tally {
-    fn new(what: &'static str) -> Self {
-        Tally {
-            what,
-            held: 0,
-            differ: 0,
-        }
-    }
-
-    fn same<T: PartialEq + std::fmt::Debug>(
-        &mut self,
-        ours: T,
-        theirs: T,
-        on: impl FnOnce() -> String,
-    ) {
-        self.held += 1;
-        if ours != theirs {
-            self.differ += 1;
-            if self.differ <= 5 {
-                println!(
-                    "{}: {} gives {:?}, Rust {:?}",
-                    self.what,
-                    on(),
-                    ours,
-                    theirs
-                );
-            }
-        }
-    }
-
-    fn done(self) -> u64 {
-        println!(
-            "{:<26} {:>9} held against Rust, {} differ",
-            self.what, self.held, self.differ
-        );
-        self.differ
-    }
-}
-
-// xorshift64*: the same texts in every run
-struct Random(u64);
-
-impl Random {
-    fn below(&mut self, n: usize) -> usize {
-        self.0 ^= self.0 >> 12;
-        self.0 ^= self.0 << 25;
-        self.0 ^= self.0 >> 27;
-        (self.0.wrapping_mul(0x2545_F491_4F6C_DD1D) >> 33) as usize % n
-    }
-
+impl Bytes for Random {
     fn character(&mut self) -> char {
         let top = [0x80, 0x80, 0x800, 0x1_0000, 0x11_0000][self.below(5)];
         char::from_u32(self.below(top) as u32).unwrap_or('\u{D7FF}')
@@ -230,7 +184,7 @@ fn checked() -> u64 {
             one(&[a, b], 0);
         }
     }
-    let mut random = Random(0x9E37_79B9_7F4A_7C15);
+    let mut random = Random::of(1);
     for _ in 0..1_000_000 {
         let text = random.bytes();
         let from = random.below(text.len() + 1);
@@ -248,7 +202,7 @@ fn checked() -> u64 {
 
 fn lined() -> u64 {
     let mut tally = Tally::new("line_info");
-    let mut random = Random(0xD1B5_4A32_D192_ED03);
+    let mut random = Random::of(2);
     for _ in 0..200_000 {
         let text: String = (0..random.below(40))
             .map(|_| {
@@ -277,16 +231,8 @@ fn lined() -> u64 {
 }
 
 // the least time of a call in nanoseconds, over many rounds
-fn least(mut call: impl FnMut()) -> f64 {
-    let mut best = f64::MAX;
-    for _ in 0..400 {
-        let start = Instant::now();
-        for _ in 0..10 {
-            call();
-        }
-        best = best.min(start.elapsed().as_nanos() as f64 / 10.0);
-    }
-    best
+fn least<T>(call: impl FnMut() -> T) -> f64 {
+    least::least(400, 10, call).as_secs_f64() * 1e9
 }
 
 fn measured() {

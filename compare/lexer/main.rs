@@ -3,14 +3,20 @@
 //
 // A text may be any bytes, and a place any number. From a place the characters go on to the first ill-formed sequence, so the others
 // are asked of that part of the text alone.
+mod causes;
 mod error;
+mod least;
 mod node;
 mod parse;
+mod random;
 mod second;
+mod tally;
 
-use std::fmt::Debug;
+use least::least;
+use random::Random;
 use std::hint::black_box;
-use std::time::{Duration, Instant};
+use std::time::Duration;
+use tally::Tally;
 
 // parse.rs asks for it at the crate's root.
 pub use error::GeneratorError;
@@ -43,21 +49,6 @@ fn parse_set_ranges(body: &[u8], out: &mut [u32]) -> Result<usize, u64> {
 }
 
 // -------------------------------------------------------------------- texts from a seed
-
-struct Random(u64);
-
-impl Random {
-    fn below(&mut self, n: usize) -> usize {
-        self.0 ^= self.0 << 13;
-        self.0 ^= self.0 >> 7;
-        self.0 ^= self.0 << 17;
-        (self.0 >> 11) as usize % n
-    }
-
-    fn pick<'a>(&mut self, of: &[&'a str]) -> &'a str {
-        of[self.below(of.len())]
-    }
-}
 
 const PIECES: [&str; 64] = [
     " ", "\n", "\t", "\r", "\u{b}", "\u{a0}", "\u{2028}", "\u{2029}", "\u{feff}", "\u{85}", "\u{3000}", "//", "/*", "*/", "/", "*",
@@ -96,37 +87,6 @@ fn body(random: &mut Random) -> String {
 }
 
 // -------------------------------------------------------------------- what is held against what
-
-struct Tally {
-    what: &'static str,
-    held: u64,
-    differ: u64,
-}
-
-impl Tally {
-    fn new(what: &'static str) -> Self {
-        Tally {
-            what,
-            held: 0,
-            differ: 0,
-        }
-    }
-
-    fn same<T: PartialEq + Debug>(&mut self, ours: T, theirs: T, on: &dyn Debug) {
-        self.held += 1;
-        if ours != theirs {
-            self.differ += 1;
-            if self.differ < 10 {
-                println!("{}: {ours:?}, not {theirs:?}, on {on:?}", self.what);
-            }
-        }
-    }
-
-    fn close(self) -> u64 {
-        println!("{:<40} {:>9} held, {} differ", self.what, self.held, self.differ);
-        self.differ
-    }
-}
 
 // What the lexer answers, in the words of the others: a string's value and not its part.
 fn seen(source: &[u8], from: usize) -> Seen {
@@ -171,12 +131,12 @@ fn pairs(random: &mut Random, count: u64) -> u64 {
         for from in 0..text.len() + 3 {
             let rest = well_formed(text.get(from..).unwrap_or_default());
             let ours = seen(&text, from);
-            let on = (String::from_utf8_lossy(&text), from);
-            rust.same(ours.clone(), moved(parse::next_at(rest, 0), from), &on);
-            program.same(ours, moved(second::first_token(rest), from), &on);
+            let on = || format!("{:?}", (String::from_utf8_lossy(&text), from));
+            rust.same(ours.clone(), moved(parse::next_at(rest, 0), from), on);
+            program.same(ours, moved(second::first_token(rest), from), on);
         }
     }
-    rust.close() + program.close()
+    rust.done() + program.done()
 }
 
 // The bytes that are written where each character is written that fits.
@@ -199,10 +159,10 @@ fn strings(random: &mut Random, count: u64) -> u64 {
         for room in [0, value.len() / 2, value.len().saturating_sub(1), value.len(), value.len() + 2] {
             let mut out = vec![0xEE; room];
             let length = decode_string(body.as_bytes(), &mut out);
-            tally.same((length, out), (value.len(), written(&value, room)), &body);
+            tally.same((length, out), (value.len(), written(&value, room)), || format!("{body:?}"));
         }
     }
-    tally.close()
+    tally.done()
 }
 
 fn set(tally: &mut [Tally; 2], body: &str) {
@@ -217,7 +177,7 @@ fn set(tally: &mut [Tally; 2], body: &str) {
                     words[2 * i..2 * i + 2].copy_from_slice(&[first, past]);
                 }
             }
-            tally.same((ours, out), (theirs.clone().map(|spans| spans.len()), words), &body);
+            tally.same((ours, out), (theirs.clone().map(|spans| spans.len()), words), || format!("{body:?}"));
         }
     }
 }
@@ -245,7 +205,7 @@ fn sets(random: &mut Random, count: u64) -> u64 {
             }
         }
     }
-    tally.map(Tally::close).iter().sum()
+    tally.map(Tally::done).iter().sum()
 }
 
 // -------------------------------------------------------------------- times
@@ -261,23 +221,13 @@ fn distinct(n: usize, order: usize) -> Vec<char> {
         0 => {}
         1 => chars.reverse(),
         _ => {
-            let mut random = Random(0x2545_F491_4F6C_DD1D);
+            let mut random = Random::of(1);
             for i in (1..n).rev() {
                 chars.swap(i, random.below(i + 1));
             }
         }
     }
     chars
-}
-
-// The shortest of some runs.
-fn time<T>(runs: usize, mut work: impl FnMut() -> T) -> Duration {
-    let timed = |_| {
-        let start = Instant::now();
-        black_box(work());
-        start.elapsed()
-    };
-    (0..runs).map(timed).min().expect("a run")
 }
 
 fn ratio(what: &str, ours: Duration, theirs: Duration) {
@@ -301,16 +251,16 @@ fn times() {
         let body: String = distinct(n, order).iter().collect();
         ratio(
             &format!("one set of {n} characters, {name}"),
-            time(5, || parse_set_ranges(body.as_bytes(), &mut out)),
-            time(3, || parse::set_ranges(&body)),
+            least(5, 1, || parse_set_ranges(body.as_bytes(), &mut out)),
+            least(3, 1, || parse::set_ranges(&body)),
         );
     }
     for n in [1, 2, 4, 8, 16, 17, 20, 32, 64, 128, 256, 257, 300, 512, 1024, 4096] {
         for (order, name) in ["ascending", "descending", "in no order"].iter().enumerate() {
             let body: String = distinct(n, order).iter().collect();
             let count = room / (body.len() + 4);
-            let ours = time(7, || (0..count).map(|_| parse_set_ranges(black_box(body.as_bytes()), &mut out)).filter(Result::is_ok).count());
-            let theirs = time(5, || (0..count).map(|_| parse::set_ranges(black_box(&body))).filter(Result::is_ok).count());
+            let ours = least(7, 1, || (0..count).map(|_| parse_set_ranges(black_box(body.as_bytes()), &mut out)).filter(Result::is_ok).count());
+            let theirs = least(5, 1, || (0..count).map(|_| parse::set_ranges(black_box(&body))).filter(Result::is_ok).count());
             ratio(&format!("{count} sets of {n}, {name}"), ours, theirs);
         }
     }
@@ -318,8 +268,8 @@ fn times() {
     let count = room / (wide.len() + 4);
     ratio(
         &format!("{count} sets of a wide span and 600 codes"),
-        time(7, || (0..count).map(|_| parse_set_ranges(black_box(wide.as_bytes()), &mut out)).filter(Result::is_ok).count()),
-        time(5, || (0..count).map(|_| parse::set_ranges(black_box(&wide))).filter(Result::is_ok).count()),
+        least(7, 1, || (0..count).map(|_| parse_set_ranges(black_box(wide.as_bytes()), &mut out)).filter(Result::is_ok).count()),
+        least(5, 1, || (0..count).map(|_| parse::set_ranges(black_box(&wide))).filter(Result::is_ok).count()),
     );
     let rule = "rule { \"key\\n\" (Other | $[a-zA-Z_]+ !eq)* ~amb @specialize<id, 'x'> } // a comment\n/* and one more */\n";
     let grammar = rule.repeat(65_535 / rule.len());
@@ -346,13 +296,13 @@ fn times() {
         }
     };
     assert_eq!(ours(), theirs());
-    ratio(&format!("{} tokens of {} bytes", ours(), grammar.len()), time(20, ours), time(20, theirs));
+    ratio(&format!("{} tokens of {} bytes", ours(), grammar.len()), least(20, 1, ours), least(20, 1, theirs));
     let long: String = "an ordinary text \\n with \\u{e9} and \\\" in it, é中. ".repeat(1000);
     let mut bytes = vec![0; long.len()];
     ratio(
         &format!("a string of {} bytes", long.len()),
-        time(20, || decode_string(long.as_bytes(), &mut bytes)),
-        time(20, || parse::string_value(&long)),
+        least(20, 1, || decode_string(long.as_bytes(), &mut bytes)),
+        least(20, 1, || parse::string_value(&long)),
     );
 }
 
@@ -360,7 +310,7 @@ fn main() {
     let numbers: Vec<u64> = std::env::args().skip(1).filter_map(|word| word.parse().ok()).collect();
     let count = numbers.first().copied().unwrap_or(2_000_000);
     let seed = numbers.get(1).copied().unwrap_or(1);
-    let mut random = Random(seed.wrapping_mul(0x9E37_79B9_7F4A_7C15) | 1);
+    let mut random = Random::of(seed);
     println!("seed {seed}");
     let differ = pairs(&mut random, count) + strings(&mut random, count / 4) + sets(&mut random, count / 4);
     times();

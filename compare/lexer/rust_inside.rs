@@ -38,13 +38,5 @@ pub fn string_value(body: &str) -> String {
 }
 
 fn cause(message: &str) -> u64 {
-    let causes = [
-        ("Unexpected character", 4),
-        ("Unterminated string", 5),
-        ("@ without a name", 6),
-        ("Unterminated character set", 7),
-        ("Invalid character range", 20),
-        ("Overlapping character range", 21),
-    ];
-    causes.iter().find(|(start, _)| message.starts_with(start)).expect("a known message").1
+    crate::causes::cause(message).into()
 }

@@ -19,79 +19,29 @@
 //!
 //! The limits of levels, repeats and bytes are not the Rust's: causes 1, 2 and 3 never appear here.
 
+mod causes;
 mod error;
+mod hex;
 mod node;
 mod parse;
+mod reading;
 mod records;
 
-use std::fmt::Write as _;
+use hex::{from_hex, to_hex, to_words};
 use std::io::{self, BufRead, BufWriter, Write};
 
 // parse.rs asks for it at the crate's root.
 pub use error::GeneratorError;
-
-/// How each message of parse.rs begins, with the cause that it stands for.
-const MESSAGES: [(&str, u32); 19] = [
-    ("Unexpected character", 4),
-    ("Unterminated string", 5),
-    ("@ without a name", 6),
-    ("Unterminated character set", 7),
-    ("Unexpected token", 8),
-    ("Top rules must have a name", 9),
-    ("Multiple @tokens", 10),
-    ("Multiple precedence", 11),
-    ("Multiple @context", 12),
-    ("Multiple top-level skip", 13),
-    ("Missing @top", 14),
-    ("Inline rules can't have parameters", 15),
-    ("@specialize requires two arguments", 16),
-    ("@extend requires two arguments", 16),
-    ("Empty expression in choice", 17),
-    ("Invalid expression in token precedences", 18),
-    ("Invalid expression in token conflict", 19),
-    ("Invalid character range", 20),
-    ("Overlapping character range", 21),
-];
-
-fn cause(message: &str) -> u32 {
-    MESSAGES
-        .iter()
-        .find(|(beginning, _)| message.starts_with(beginning))
-        .unwrap_or_else(|| panic!("unknown message: {message}"))
-        .1
-}
-
-/// A message ends with `(line:column)`, since no file name was given.
-fn line_column(message: &str) -> (&str, &str) {
-    message
-        .rsplit_once('(')
-        .and_then(|(_, place)| place.strip_suffix(')'))
-        .and_then(|place| place.split_once(':'))
-        .unwrap_or_else(|| panic!("no line and column: {message}"))
-}
 
 fn answer(line: &str) -> String {
     let text = from_hex(line);
     let Ok(source) = std::str::from_utf8(&text) else {
         return "N".to_owned();
     };
-    match parse::parse_grammar(source, None) {
-        Err(error) => {
-            let message = error.message();
-            let place = error.position().expect("each error here has a place");
-            let (line, column) = line_column(message);
-            format!("R {} {place} {line} {column}", cause(message))
-        }
-        Ok(grammar) => {
-            let stored = records::of_grammar(&grammar);
-            format!("T {} | {}", to_words(&stored.words), to_hex(&stored.texts))
-        }
+    match reading::read(source) {
+        Err((cause, place, line, column)) => format!("R {cause} {place} {line} {column}"),
+        Ok(stored) => format!("T {} | {}", to_words(&stored.words), to_hex(&stored.texts)),
     }
-}
-
-fn to_words(words: &[u32]) -> String {
-    let words: Vec<String> = words.iter().map(u32::to_string).collect();
-    words.join(",")
 }
 
 /// The body of a text's first top rule.
@@ -110,22 +60,6 @@ fn compare(line: &str) -> String {
         format!("{}|{}", to_words(&stored.words), to_hex(&stored.texts))
     });
     format!("{left}|{right} E {}", u8::from(equal))
-}
-
-fn to_hex(bytes: &[u8]) -> String {
-    let mut hex = String::with_capacity(2 * bytes.len());
-    for byte in bytes {
-        write!(hex, "{byte:02x}").expect("a string takes all");
-    }
-    hex
-}
-
-fn from_hex(line: &str) -> Vec<u8> {
-    assert!(line.len() % 2 == 0, "half a byte: {line}");
-    (0..line.len())
-        .step_by(2)
-        .map(|at| u8::from_str_radix(&line[at..at + 2], 16).expect("hexadecimal"))
-        .collect()
 }
 
 /// The ends of all spans of codes that have a property.

@@ -17,10 +17,11 @@
 //! - `second tree expression` or `second tree grammar`: `words|texts`. `1` for one tree, else `0`.
 //! - `second compare`: `words|texts|words|texts`. `E 0` or `E 1`, or `R 25 0 1 0`.
 
+mod hex;
 mod second;
 
+use hex::{from_hex, to_hex, to_words, trees};
 use second::{Held, Refusal, Root};
-use std::fmt::Write as _;
 use std::io::{self, BufRead, BufWriter, Write};
 
 /// What lent words hold before a call: each its own place, so that no shift goes unseen.
@@ -32,35 +33,6 @@ fn lent_words(length: &str) -> Vec<u32> {
 fn lent_bytes(length: &str) -> Vec<u8> {
     let length: usize = length.parse().expect("a length");
     (0..length).map(|place| (place % 251) as u8).collect()
-}
-
-fn to_hex(bytes: &[u8]) -> String {
-    let mut hex = String::with_capacity(2 * bytes.len());
-    for byte in bytes {
-        write!(hex, "{byte:02x}").expect("a string takes all");
-    }
-    hex
-}
-
-fn from_hex(line: &str) -> Vec<u8> {
-    assert!(line.len() % 2 == 0, "half a byte: {line}");
-    (0..line.len())
-        .step_by(2)
-        .map(|at| u8::from_str_radix(&line[at..at + 2], 16).expect("hexadecimal"))
-        .collect()
-}
-
-fn to_words(words: &[u32]) -> String {
-    let words: Vec<String> = words.iter().map(u32::to_string).collect();
-    words.join(",")
-}
-
-fn from_words(line: &str) -> Vec<u32> {
-    if line.is_empty() {
-        return Vec::new();
-    }
-    let word = |word: &str| word.parse().expect("a word");
-    line.split(',').map(word).collect()
 }
 
 /// Cause, place, line and column.
@@ -140,15 +112,6 @@ fn lend(line: &str) -> String {
 
 fn print(line: &str) -> String {
     to_hex(&second::printed(&from_hex(line)))
-}
-
-/// The stored trees of a line, two parts each.
-fn trees(line: &str) -> Vec<(Vec<u32>, Vec<u8>)> {
-    let parts: Vec<&str> = line.split('|').collect();
-    parts
-        .chunks(2)
-        .map(|tree| (from_words(tree[0]), from_hex(tree[1])))
-        .collect()
 }
 
 fn tree(line: &str, root: Root) -> String {

@@ -5,12 +5,15 @@
 //! - `held times`: reads nothing; answers and times for deep and wide trees, and beside the Rust's `structurally_eq`.
 
 mod error;
+mod hex;
+mod least;
 mod node;
 mod parse;
 mod records;
 
 // parse.rs asks for it at the crate's root.
 pub use error::GeneratorError;
+use hex::trees;
 use std::hint::black_box;
 use std::io::{self, BufRead, BufWriter, Write};
 use std::time::Instant;
@@ -23,30 +26,6 @@ unsafe extern "C" {
 }
 
 type Stored = (Vec<u32>, Vec<u8>);
-
-fn from_hex(part: &str) -> Vec<u8> {
-    (0..part.len())
-        .step_by(2)
-        .map(|at| u8::from_str_radix(&part[at..at + 2], 16).expect("hexadecimal"))
-        .collect()
-}
-
-fn from_words(part: &str) -> Vec<u32> {
-    if part.is_empty() {
-        return Vec::new();
-    }
-    let word = |word: &str| word.parse().expect("a word");
-    part.split(',').map(word).collect()
-}
-
-/// The stored trees of a line, two parts each.
-fn trees(line: &str) -> Vec<Stored> {
-    let parts: Vec<&str> = line.split('|').collect();
-    parts
-        .chunks(2)
-        .map(|tree| (from_words(tree[0]), from_hex(tree[1])))
-        .collect()
-}
 
 fn compared(left: &Stored, right: &Stored) -> String {
     match unsafe { tree_structurally_eq(&left.0, &left.1, &right.0, &right.1) } {
@@ -108,17 +87,9 @@ fn timed(what: &str, tree: &Stored) {
     assert!(one && answer == "E 1");
 }
 
-/// The shortest of 50 rounds of 10 calls, in microseconds for each call.
+/// The time of a call that has to say yes, in microseconds.
 fn least(mut call: impl FnMut() -> bool) -> f64 {
-    (0..50)
-        .map(|_| {
-            let begun = Instant::now();
-            for _ in 0..10 {
-                assert!(black_box(call()));
-            }
-            begun.elapsed().as_secs_f64() * 1e5
-        })
-        .fold(f64::MAX, f64::min)
+    least::least(50, 10, || assert!(black_box(call()))).as_secs_f64() * 1e6
 }
 
 /// The body of a top rule that has `times` this expression, compared with its like.

@@ -7,16 +7,13 @@ use Prim.Native.Nat.{ℕ}
 use native.Mathlib.Omega.{arith}
 use lib.Dec.{ltb}
 use borrow.Author.Tests.{ltb-true}
-use Rattle.basics.specs.Basics.{same, every}
+use Rattle.basics.specs.Basics.{same, letters, every}
 use Rattle.basics.proofs.Tests.{both-true}
 use Rattle.basics.proofs.Same.{same-true, same-refl, same-by}
 use Rattle.characters.specs.Utf8.{encodeAll, codes}
 use Rattle.characters.proofs.Encode.{scalar-low, encode-1}
 use Rattle.characters.proofs.Chars.{Scalars, none-left, one-more, codes-all}
-
--- all ASCII
-abbrev pub isPlain : List ℕ → Bool
-isPlain w = every (λ c. ltb c 0x80) w
+use Rattle.lexer.specs.Promise.{isPlain, classNamed}
 
 plain-scalars : (w : List ℕ) → isPlain w ≡ true → Scalars w
 unfolding every
@@ -38,3 +35,9 @@ pub spells-codes : (w bs : List ℕ) → isPlain w ≡ true → encodeAll (codes
 spells-codes w bs h e =
     same-by (same w bs) w (codes bs) (λ q. sym (codes-all (plain-scalars w h)) ∙ ap codes (plain-bytes w h ∙ same-true w bs q))
     (λ q. subst (λ (l : List ℕ). same w l ≡ true) (sym (plain-bytes w h) ∙ ap encodeAll q ∙ e) (same-refl w))
+
+-- and names the same class
+pub class-codes : (bs : List ℕ) → encodeAll (codes bs) ≡ bs → classNamed bs ≡ classNamed (codes bs)
+unfolding classNamed every
+class-codes bs e =
+    rw (spells-codes (letters "asciiLetter") bs refl e, spells-codes (letters "asciiLowercase") bs refl e, spells-codes (letters "asciiUppercase") bs refl e, spells-codes (letters "digit") bs refl e, spells-codes (letters "whitespace") bs refl e, spells-codes (letters "eof") bs refl e)

@@ -5,9 +5,9 @@ use mathlib.Core.Path.{_≡_}
 use mathlib.Core.Bool.{Bool, true, false, _&&_}
 use mathlib.Core.List.{List, [], _∷_, _++_, map}
 use mathlib.Core.Option.{Option, none, some}
-use lib.Dec.{leb}
+use lib.Dec.{leb, ltb}
 use lib.ListN.{length, getD, take, drop}
-use Rattle.basics.specs.Basics.{if_then_else_, letters, is, among, spells}
+use Rattle.basics.specs.Basics.{if_then_else_, letters, is, among, spells, every}
 use Rattle.error.specs.Causes.{unexpectedCharacter, unterminatedString, atWithoutName, unterminatedSet, reversedSpan, overlappingSpan}
 use Rattle.characters.specs.Utf8.{codes, encodeAll, width, isScalar}
 use Rattle.characters.specs.Places.{charsAt, peekAt, cut, past}
@@ -292,6 +292,10 @@ Parses s out after block B.Reversed = Checks (spansAt s 0) Reversed × (after �
 Parses s out after block B.Overlapping = Checks (spansAt s 0) Overlapping × (after ≡ stored (spansAt s 0) out)
 
 -- ------------------------------------------------------------------ words
+
+-- all ASCII
+abbrev pub isPlain : List ℕ → Bool
+isPlain w = every (λ c. ltb c 0x80) w
 
 -- the class that a text names
 unfoldable pub classNamed : List ℕ → Class

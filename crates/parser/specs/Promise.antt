@@ -7,9 +7,8 @@ use mathlib.Core.Path.{_≡_}
 use mathlib.Core.Bool.{Bool, true, false}
 use mathlib.Core.List.{List}
 use mathlib.Core.Option.{Option, none, some}
-use lib.Dec.{ltb}
 use lib.ListN.{length}
-use Rattle.basics.specs.Basics.{letters, every}
+use Rattle.basics.specs.Basics.{letters}
 use Rattle.lexer.specs.declared.Kind.{Kind}
 use Rattle.lexer.specs.declared.Kind.the-variants.{String, Set, Punctuation, Identifier}
 use Rattle.lexer.specs.declared.Kind.the-variants as K
@@ -17,10 +16,12 @@ use Rattle.error.specs.declared.Cause.{Cause}
 use Rattle.error.specs.Promise.{causeNumber}
 use Rattle.lexer.specs.Tokens as T
 use Rattle.lexer.specs.Tokens.{Tokens}
-use Rattle.lexer.specs.Promise.{tokensAt, partOf, kindOf as kindIn, Parted, Inside}
+use Rattle.lexer.specs.Promise.{tokensAt, partOf, kindOf as kindIn, Parted, Inside, isPlain}
 use Rattle.lexer.specs.Promise as L
 use Rattle.lexer.specs.Escapes.{decodeString}
-use Rattle.tree.specs.Syntax.{Identifier as Name}
+use Rattle.lexer.specs.declared.words.Class.{Class}
+use Rattle.lexer.specs.declared.words.Class.the-variants as C
+use Rattle.tree.specs.Syntax.{Identifier as Name, CharClass, asciiLetter, asciiLowercase, asciiUppercase, digit, whitespace, eof}
 use Rattle.parser.specs.Parser.{Answer, read, refused, says, eatIf, eat, eatName, eatAt, expect, taken, parseIdentifier, expectString}
 use Rattle.parser.specs.declared.Current.{Current}
 use Rattle.parser.specs.declared.Current.the-variants.{Token, End}
@@ -143,10 +144,6 @@ abbrev pub Whole : List ℕ → Part → Type 0
 Whole s (From a e) = L.Part s a e
 Whole s Nothing = Unit {0}
 
--- all ASCII
-abbrev pub isPlain : List ℕ → Bool
-isPlain w = every (λ c. ltb c 0x80) w
-
 -- whether there is a part, and it is this word
 pub record Says (s : List ℕ) (part : Part) (word : List ℕ) (r : Bool) : Type 0 where
   pub said : (w : Quoted) → letters w ≡ word → isPlain word ≡ true → says w (textIn s part) ≡ r
@@ -159,6 +156,16 @@ pub record EatsName (s : List ℕ) (t : Current) (word : List ℕ) (r : Eaten) :
 pub record EatsAt (s : List ℕ) (t : Current) (word : List ℕ) (r : Eaten) : Type 0 where
   pub eats : (w : Quoted) → letters w ≡ word → isPlain word ≡ true → eatAt w (stream s t) ≡ eaten s t r
   pub lies : EatenLies s (endIn t) r
+
+-- the class that an answer of the lexer stands for
+abbrev pub classOf : Class → Option CharClass
+classOf C.AsciiLetter = some asciiLetter
+classOf C.AsciiLowercase = some asciiLowercase
+classOf C.AsciiUppercase = some asciiUppercase
+classOf C.Digit = some digit
+classOf C.Whitespace = some whitespace
+classOf C.Eof = some eof
+classOf C.Missing = none
 
 -- ------------------------------------------------------------------ taking what a token holds
 

@@ -5,3 +5,4 @@ pub mod Stored
 pub mod OneTree
 pub mod Equality
 pub mod Promise
+pub mod Examples
