@@ -17,10 +17,10 @@ use Rattle.characters.specs.Utf8.{codes, encodeAll}
 use Rattle.characters.specs.Places.{cut}
 use Rattle.lexer.specs.Tokens.{Tokens}
 use Rattle.lexer.specs.Escapes.{decodeString}
-use Rattle.lexer.specs.Promise.{partOf}
+use Rattle.lexer.specs.Promise.{partOf, isPlain}
 use Rattle.lexer.specs.Promise as L
 use Rattle.lexer.specs.declared.Kind.{Kind}
-use Rattle.lexer.proofs.Spelled.{isPlain, spells-codes}
+use Rattle.lexer.proofs.Spelled.{spells-codes}
 use Rattle.tree.specs.Promise.{repeatOf}
 use Rattle.tree.specs.Stored.{propBranch, nameBranch, markerNumber, repeatValue, named}
 use Rattle.tree.specs.Syntax.{Identifier, Prop, RepeatKind, ConflictMarkerKind}

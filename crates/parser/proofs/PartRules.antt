@@ -16,7 +16,7 @@ use Rattle.characters.specs.Places.{cut}
 use Rattle.lexer.specs.Tokens.{Tokens}
 use Rattle.lexer.specs.Escapes.{decodeString}
 use Rattle.lexer.specs.Sets.{spans, fault, sorted}
-use Rattle.lexer.specs.Promise.{partOf, classNamed, ReadsAtom, atomsAt, Checks}
+use Rattle.lexer.specs.Promise.{partOf, classNamed, ReadsAtom, atomsAt, Checks, isPlain}
 use Rattle.lexer.specs.Promise as L
 use Rattle.lexer.specs.declared.Kind.the-variants as K
 use Rattle.lexer.specs.declared.words.Class.{Class}
@@ -25,7 +25,7 @@ use Rattle.lexer.specs.declared.escapes.Atom.{Atom}
 use Rattle.lexer.specs.declared.escapes.Atom.the-variants as A
 use Rattle.lexer.specs.declared.sets.Ranges.{Ranges}
 use Rattle.lexer.specs.declared.sets.Ranges.the-variants as R
-use Rattle.lexer.proofs.Spelled.{isPlain, spells-codes}
+use Rattle.lexer.proofs.Spelled.{spells-codes}
 use Rattle.tree.specs.CharClasses.{fromName, classValue}
 use Rattle.tree.specs.Promise.{classOf}
 use Rattle.tree.specs.Records.{Node, nodes}
