@@ -3,6 +3,7 @@ pub mod Writes
 pub mod Digits
 pub mod Bytes
 pub mod Spaces
+pub mod Small
 pub mod Walked
 pub mod WalkedExpressions
 pub mod WalkedDeclarations

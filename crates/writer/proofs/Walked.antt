@@ -15,7 +15,7 @@ use Rattle.tree.specs.OneTree.{kindOf}
 use Rattle.writer.specs.Spelling.{quoted, spell, spaced}
 use Rattle.tree.specs.Stored as Stored
 use Rattle.writer.specs.NormalText.{each, eachAfter, commas, bracketed, mark}
-use Rattle.writer.specs.Walk.{class, between, source, glue, tail, setting, lead, ends, before, spelled, after, own, close, front, back, lastClass, branchText, branchesText}
+use Rattle.writer.specs.Walk.{class, between, separator, source, glue, tail, setting, lead, ends, before, spelled, after, own, close, blockEnd, front, back, lastClass, branchText, branchesText}
 use Rattle.writer.proofs.Bytes.{string-bytes, encode-append}
 
 abbrev pub classOf : Branch → ℕ

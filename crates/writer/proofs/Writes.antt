@@ -1,12 +1,13 @@
 -- Laws of what was added to an output: a byte, nothing, and one text after another.
 -- Assumes nothing.
 use mathlib.Core.Path.{_≡_, refl, sym, _∙_, ap}
-use mathlib.Core.List.{List, [], _∷_, _++_, append-assoc}
-use Prim.Native.Nat.{ℕ, _+_, _≤_, _<_}
+use mathlib.Core.List.{List, [], _∷_, _++_, append-assoc, append-nil}
+use Prim.Native.Nat.{ℕ, _+_, _-_, _≤_, _<_}
 use native.Mathlib.Omega.{arith}
 use native.Mathlib.Numerals.{add-one}
-use lib.ListN.{length, take, drop, set, getD, length-append, length-set, length-drop, take-append-drop}
-use lib.Seq.{length-take-le, set-split, take-at, drop-at, drop-drop, take-suc, getD-drop}
+use lib.ListN.{length, take, drop, set, getD, length-append, length-set, length-drop, take-append-drop, drop-of-length-le}
+use lib.Seq.{length-take-le, set-split, take-all, take-at, drop-at, drop-drop, take-suc, getD-drop}
+use borrow.Rule.Slice.PartMut.{putMid, same-len-mid}
 use Rattle.writer.specs.Promise.{Adds, Wrote}
 
 pub adds-none : (old : List ℕ) (n : ℕ) → Adds [] old n old n
@@ -71,3 +72,30 @@ adds-over t a b {old} {mid} {new} {n} {m} f g =
           let w : drop (m + 1) mid ≡ r = ap (drop (m + 1)) (e ∙ sym (append-assoc (take n old ++ t) (a ∷ []) r)) ∙ drop-at ((take n old ++ t) ++ (a ∷ [])) r (m + 1) y in
           g .holds (omega (arith, f .same)) ∙ rw (x, w) (simp append-assoc);
     }
+
+-- nothing at the start
+pub wrote-none : (old : List ℕ) → Wrote [] old old 0
+wrote-none old = record { counts = refl; same = refl; holds = λ _. refl }
+
+-- b after a, in the part of what a left that starts at `at`
+module _ {a b old mid part : List ℕ} {n m at : ℕ} where
+  pub then : Wrote a old mid n → (at ≤ length mid) × (n ≤ length mid → at ≡ n) → Wrote b (take (length mid - at) (drop at mid)) part m
+      → Wrote (a ++ b) old (putMid at (length mid - at) mid part) (n + m)
+  then v (h, e) w =
+      let z : take (length mid - at) (drop at mid) ≡ drop at mid = take-all (length mid - at) (drop at mid) (simp length-drop (omega arith)) in
+      let y : drop (length mid - at) (drop at mid) ≡ [] = drop-of-length-le (drop at mid) {i = length mid - at} (simp length-drop (omega arith)) in
+      record {
+        counts = omega (arith, length-append a b, v .counts, w .counts);
+        same = same-len-mid at (length mid - at) mid part (w .same) ∙ v .same;
+        holds = λ k.
+            let c = v .counts in
+            let d = v .same in
+            let f : at ≡ n = e (omega arith) in
+            let g : length a ≡ at = omega arith in
+            let p : mid ≡ a ++ drop n old = v .holds (omega arith) in
+            let q : drop at mid ≡ drop n old = ap (drop at) p ∙ drop-at a (drop n old) at g in
+            let l : m ≤ length (take (length mid - at) (drop at mid)) = rw (z, length-drop) (omega arith) in
+            let r : part ≡ b ++ drop m (drop n old) = rw (z, q) at (w .holds l) in
+            let s : take at mid ≡ a = ap (take at) p ∙ take-at a (drop n old) at g in
+            rw (y, append-nil, s, r, drop-drop, append-assoc);
+      }

@@ -34,22 +34,35 @@ textFor (e ∷ es) n = if eqb n (e .number) then e .text else textFor es n
 unfoldable pub class : ℕ → ℕ
 class k = if isExpression k then 30 else if eqb k 7 then 6 else k
 
--- between two of one class
+-- between two of one class: by the parent for expressions, by the class otherwise
+abbrev pub expressionCommas : List Entry
+expressionCommas = 33 says " |" ∷ 9 says " ," ∷ 10 says " ," ∷ 30 says " ," ∷ 31 says " ," ∷ []
+
+abbrev pub listCommas : List Entry
+listCommas = 4 says " ," ∷ 5 says " ," ∷ 13 says " ," ∷ 17 says " ," ∷ 21 says " ," ∷ []
+
 unfoldable pub comma : (parent child : ℕ) → List ℕ
-comma p c =
-    if eqb c 30 then textFor (33 says " |" ∷ 9 says " ," ∷ 10 says " ," ∷ 30 says " ," ∷ 31 says " ," ∷ []) p
-    else textFor (4 says " ," ∷ 5 says " ," ∷ 13 says " ," ∷ 17 says " ," ∷ 21 says " ," ∷ []) c
+comma p c = if eqb c 30 then textFor expressionCommas p else textFor listCommas c
 
 -- before the first of a class
+abbrev pub expressionOpens : List Entry
+expressionOpens = 2 says " {" ∷ 3 says " {" ∷ 30 says " <" ∷ 31 says " <" ∷ 32 says " {" ∷ []
+
+abbrev pub nodeOpens : List Entry
+nodeOpens = 12 says " @else" ∷ []
+
+abbrev pub listOpens : List Entry
+listOpens = 4 says " <" ∷ 5 says " [" ∷ 6 says " =" ∷ 17 says " @conflict {" ∷ []
+
 unfoldable pub opens : (parent child : ℕ) → List ℕ
-opens p c =
-    if eqb c 30 then textFor (2 says " {" ∷ 3 says " {" ∷ 32 says " {" ∷ 30 says " <" ∷ 31 says " <" ∷ []) p
-    else if eqb c 13 then textFor (12 says " @else" ∷ []) p
-    else textFor (4 says " <" ∷ 5 says " [" ∷ 6 says " =" ∷ 17 says " @conflict {" ∷ []) c
+opens p c = if eqb c 30 then textFor expressionOpens p else if eqb c 13 then textFor nodeOpens p else textFor listOpens c
 
 -- after the last of a class, where another follows
+abbrev pub listShuts : List Entry
+listShuts = 4 says " >" ∷ 5 says " ]" ∷ 13 says " ," ∷ []
+
 unfoldable pub shuts : (child : ℕ) → List ℕ
-shuts c = textFor (4 says " >" ∷ 5 says " ]" ∷ 13 says " ," ∷ []) c
+shuts c = textFor listShuts c
 
 -- between two lines: dialects, of which there may be many, are one
 unfoldable pub newLine : (left child : ℕ) → List ℕ
@@ -57,13 +70,16 @@ newLine l c =
     if eqb c 24 then (if eqb l 24 then letters " ," else letters "@dialects {")
     else (if eqb l 24 then letters " }\n" else [])
 
+-- between two children of classes l and c in a list with commas, or where one list ends and another begins
+unfoldable pub separator : (parent left child : ℕ) → List ℕ
+separator p l c = if eqb l c then comma p c else shuts l ++ opens p c
+
 -- between two children of classes l and c; l is 0 before the first
 unfoldable pub between : (parent left child : ℕ) → List ℕ
 between p l c =
     if eqb p 1 then newLine l c
     else if among (8 ∷ 12 ∷ 23 ∷ 34 ∷ 37 ∷ []) p then opens p c
-    else if eqb l c then comma p c
-    else shuts l ++ opens p c
+    else separator p l c
 
 -- the parent's name stands before a source string
 unfoldable pub source : (name : List ℕ) → (child : ℕ) → List ℕ
@@ -73,11 +89,17 @@ unfoldable pub glue : (parent : Row) → (left child : ℕ) → List ℕ
 glue p l c = between (p .kind) l c ++ source (p .text) c
 
 -- after a child, whatever follows
+abbrev pub expressionTails : List Entry
+expressionTails = 18 says " }" ∷ 23 says " } {" ∷ []
+
+abbrev pub sourceTails : List Entry
+sourceTails = 16 says " {" ∷ 18 says " {" ∷ []
+
+abbrev pub nameTails : List Entry
+nameTails = 26 says " as" ∷ []
+
 unfoldable pub tail : (parent child : ℕ) → List ℕ
-tail p c =
-    if eqb c 30 then textFor (18 says " }" ∷ 23 says " } {" ∷ []) p
-    else if eqb c 15 then textFor (16 says " {" ∷ 18 says " {" ∷ []) p
-    else textFor (26 says " as" ∷ []) c
+tail p c = if eqb c 30 then textFor expressionTails p else if eqb c 15 then textFor sourceTails p else textFor nameTails c
 
 -- ------------------------------------------------------------------ round brackets, spaces and line feeds
 
@@ -105,19 +127,40 @@ ends s k v = if loose s k v then letters " )" else if isLine s k then letters "\
 
 -- ------------------------------------------------------------------ one record
 
--- before its text
+-- before its text: by its value for some kinds, by its kind otherwise
+abbrev pub propWords : List Entry
+propWords = 1 says "@" ∷ []
+
+abbrev pub externalWords : List Entry
+externalWords = 1 says "@external extend {" ∷ 2 says "@external specialize {" ∷ []
+
+abbrev pub specializeWords : List Entry
+specializeWords = 1 says "@extend" ∷ 2 says "@specialize" ∷ []
+
+abbrev pub sequenceWords : List Entry
+sequenceWords = 1 says "( )" ∷ []
+
+abbrev pub setWords : List Entry
+setWords = 0 says "$[" ∷ 1 says "![" ∷ []
+
+abbrev pub classWords : List Entry
+classWords = 0 says "@asciiLetter" ∷ 1 says "@asciiLowercase" ∷ 2 says "@asciiUppercase" ∷ 3 says "@digit" ∷ 4 says "@whitespace" ∷ 5 says "@eof" ∷ []
+
+abbrev pub kindWords : List Entry
+kindWords =
+    2 says "@top " ∷ 7 says "{ " ∷ 8 says "@tokens {" ∷ 9 says "@precedence {" ∷ 10 says "@conflict {" ∷ 12 says "@local tokens {"
+    ∷ 14 says "@context" ∷ 16 says "@external tokens" ∷ 19 says "@external propSource" ∷ 20 says "@precedence {" ∷ 22 says "@skip {"
+    ∷ 23 says "@skip {" ∷ 25 says "@external prop" ∷ 39 says "_" ∷ 41 says "~ " ∷ 42 says "! " ∷ []
+
 unfoldable pub before : (kind value : ℕ) → List ℕ
 before k v =
-    if eqb k 5 then textFor (1 says "@" ∷ []) v
-    else if eqb k 18 then textFor (1 says "@external extend {" ∷ 2 says "@external specialize {" ∷ []) v
-    else if eqb k 31 then textFor (1 says "@extend" ∷ 2 says "@specialize" ∷ []) v
-    else if eqb k 34 then textFor (1 says "( )" ∷ []) v
-    else if eqb k 37 then textFor (0 says "$[" ∷ 1 says "![" ∷ []) v
-    else if eqb k 40 then textFor (0 says "@asciiLetter" ∷ 1 says "@asciiLowercase" ∷ 2 says "@asciiUppercase" ∷ 3 says "@digit" ∷ 4 says "@whitespace" ∷ 5 says "@eof" ∷ []) v
-    else
-    textFor (2 says "@top " ∷ 7 says "{ " ∷ 8 says "@tokens {" ∷ 9 says "@precedence {" ∷ 10 says "@conflict {" ∷ 12 says "@local tokens {"
-    ∷ 14 says "@context" ∷ 16 says "@external tokens" ∷ 19 says "@external propSource" ∷ 20 says "@precedence {" ∷ 22 says "@skip {"
-    ∷ 23 says "@skip {" ∷ 25 says "@external prop" ∷ 39 says "_" ∷ 41 says "~ " ∷ 42 says "! " ∷ []) k
+    if eqb k 5 then textFor propWords v
+    else if eqb k 18 then textFor externalWords v
+    else if eqb k 31 then textFor specializeWords v
+    else if eqb k 34 then textFor sequenceWords v
+    else if eqb k 37 then textFor setWords v
+    else if eqb k 40 then textFor classWords v
+    else textFor kindWords k
 
 -- its text: a string, a span's codes, none where it stands before the source string, or a name
 unfoldable pub spelled : Row → List ℕ
@@ -128,23 +171,40 @@ spelled r =
     else r .text
 
 -- after it
+abbrev pub precWords : List Entry
+precWords = 1 says " @left" ∷ 2 says " @right" ∷ 3 says " @cut" ∷ []
+
+abbrev pub partEnds : List Entry
+partEnds = 7 says " }" ∷ []
+
 unfoldable pub after : (kind value : ℕ) → List ℕ
-after k v =
-    if eqb k 21 then textFor (1 says " @left" ∷ 2 says " @right" ∷ 3 says " @cut" ∷ []) v
-    else textFor (7 says " }" ∷ []) k
+after k v = if eqb k 21 then textFor precWords v else textFor partEnds k
 
 unfoldable pub own : Row → List ℕ
 own r = (before (r .kind) (r .value) ++ spelled r) ++ after (r .kind) (r .value)
 
 -- after its children, the last of which is of a class, or 0
+abbrev pub repeatWords : List Entry
+repeatWords = 0 says " ?" ∷ 1 says " *" ∷ 2 says " +" ∷ []
+
+abbrev pub listEnds : List Entry
+listEnds = 5 says " ]" ∷ 30 says " >" ∷ []
+
+abbrev pub kindEnds : List Entry
+kindEnds =
+    2 says " }" ∷ 3 says " }" ∷ 8 says " }" ∷ 9 says " }" ∷ 10 says " }" ∷ 12 says " }" ∷ 18 says " }" ∷ 20 says " }" ∷ 22 says " }"
+    ∷ 23 says " }" ∷ 31 says " >" ∷ 32 says " }" ∷ 37 says "]" ∷ []
+
+-- the end of an external block, whose last list may be one of conflicts
+unfoldable pub blockEnd : (last : ℕ) → List ℕ
+blockEnd l = if eqb l 17 then letters " } }" else letters " }"
+
 unfoldable pub close : (kind value last : ℕ) → List ℕ
 close k v l =
-    if eqb k 35 then textFor (0 says " ?" ∷ 1 says " *" ∷ 2 says " +" ∷ []) v
-    else if among (11 ∷ 13 ∷ 30 ∷ []) k then textFor (5 says " ]" ∷ 30 says " >" ∷ []) l
-    else if eqb k 16 then (if eqb l 17 then letters " } }" else letters " }")
-    else
-    textFor (2 says " }" ∷ 3 says " }" ∷ 8 says " }" ∷ 9 says " }" ∷ 10 says " }" ∷ 12 says " }" ∷ 18 says " }" ∷ 20 says " }" ∷ 22 says " }"
-    ∷ 23 says " }" ∷ 31 says " >" ∷ 32 says " }" ∷ 37 says "]" ∷ []) k
+    if eqb k 35 then textFor repeatWords v
+    else if among (11 ∷ 13 ∷ 30 ∷ []) k then textFor listEnds l
+    else if eqb k 16 then blockEnd l
+    else textFor kindEnds k
 
 -- ------------------------------------------------------------------ trees
 
@@ -169,8 +229,14 @@ unfoldable mutual
   branchesText p l (b ∷ᴮ bs) = branchText p l b ++ branchesText p (class (kindOf b)) bs
 
 -- the end of a grammar's text
+abbrev pub dialectEnds : List Entry
+dialectEnds = 24 says " }\n" ∷ []
+
+abbrev pub detectWords : List Entry
+detectWords = 1 says "@detectDelim\n" ∷ []
+
 unfoldable pub closing : (value last : ℕ) → List ℕ
-closing v l = textFor (24 says " }\n" ∷ []) l ++ textFor (1 says "@detectDelim\n" ∷ []) v
+closing v l = textFor dialectEnds l ++ textFor detectWords v
 
 -- the text of a whole tree
 unfoldable pub treeText : Branch → List ℕ

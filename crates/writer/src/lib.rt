@@ -12,7 +12,12 @@ ghost use Rattle.basics.specs.Basics.{is};
 ghost use Rattle.characters.specs.Spans.{_upto_};
 ghost use Rattle.lexer.specs.Tokens.{Kind};
 ghost use Rattle.writer.specs.Spelling.{quoted, hexDigit, hexFrom, codeText, spanText, spell};
-ghost use Rattle.writer.specs.Promise.{Adds, digitAt};
+ghost use Rattle.writer.specs.Promise.{Adds, Wrote, digitAt};
+ghost use Rattle.writer.specs.Walk.{textFor, expressionCommas, listCommas, expressionOpens, nodeOpens, listOpens, listShuts, expressionTails, sourceTails, nameTails, propWords, externalWords, specializeWords, sequenceWords, setWords, classWords, kindWords, precWords, partEnds, repeatWords, listEnds, kindEnds, dialectEnds, detectWords, class as classD, comma, opens, shuts, newLine, separator, between, source, glue, tail, setting as settingD, loose, isLine, bare, lead, ends, before, spelled, after, own, blockEnd, close, front, back};
+use tree::is_expression;
+use tree::kind_before;
+use tree::text;
+use tree::word;
 
 // One byte, where there is room.
 fn put_byte(out: &mut [u8], n: usize, b: u8) -> usize
@@ -134,4 +139,545 @@ fn put_span(out: &mut [u8], n: usize, first: u32, past: u32) -> usize
     }
     let b = put_byte(out, a, 0x2D);
     put_code(out, b, past - 1)
+}
+
+// Where what follows n bytes goes, in an output of `len` bytes: past its end where they did not fit.
+fn upto(n: usize, len: usize) -> usize
+    ensures { λ r. ⌜ (r ≤ len) × (n ≤ len → r ≡ n) ⌝ }
+{
+    if n <= len {
+        return n;
+    }
+    len
+}
+
+// Bytes at the front of an output.
+fn put(s: &[u8], out: &mut [u8]) -> usize
+    ensures { λ r. ⌜ Wrote (now (s .entry)) (now (out .entry)) (now (out .exit)) r ⌝ }
+{
+    put_bytes(out, 0, s, 0, s.len())
+}
+
+// A stored text as a string token, at the front of an output.
+fn put_quoted(s: &[u8], out: &mut [u8]) -> usize
+    requires { ⌜ length (now s) ≤ 2 ^ 30 ⌝ }
+    ensures { λ r. ⌜ Wrote (spell (Kind.string (quoted (now (s .entry))))) (now (out .entry)) (now (out .exit)) r ⌝ }
+{
+    put_string(out, 0, s, 0, s.len())
+}
+
+// Kinds whose records stand in one list have one number.
+fn class(kind: u32) -> u32
+    ensures { λ r. ⌜ r ≡ classD kind ⌝ }
+{
+    if is_expression(kind) {
+        return 30;
+    }
+    if kind == 7 {
+        return 6;
+    }
+    kind
+}
+
+// How children stand in a record: in lines, in arms, in slots, or otherwise.
+fn setting(parent: u32) -> u32
+    ensures { λ r. ⌜ r ≡ settingD parent ⌝ }
+{
+    match parent {
+        1 => 1,
+        33 => 33,
+        34 => 34,
+        35 => 34,
+        _ => 0,
+    }
+}
+
+// A record stands in round brackets.
+fn is_loose(setting: u32, kind: u32, value: u32) -> bool
+    ensures { λ r. ⌜ r ≡ loose setting kind value ⌝ }
+{
+    if kind == 33 {
+        if setting == 33 {
+            return true;
+        }
+        if setting == 34 {
+            return true;
+        }
+        return false;
+    }
+    if kind == 34 {
+        if value == 0 {
+            return setting == 34;
+        }
+        return false;
+    }
+    false
+}
+
+// A record is a line of its own.
+fn is_line(setting: u32, kind: u32) -> bool
+    ensures { λ r. ⌜ r ≡ isLine setting kind ⌝ }
+{
+    if setting == 1 {
+        if kind == 24 {
+            return false;
+        }
+        return true;
+    }
+    false
+}
+
+// A record begins with no token of its own.
+fn is_bare(kind: u32, value: u32) -> bool
+    ensures { λ r. ⌜ r ≡ bare kind value ⌝ }
+{
+    match kind {
+        33 => true,
+        34 => value == 0,
+        35 => true,
+        38 => true,
+        _ => false,
+    }
+}
+
+// Between two expressions.
+fn put_expression_comma(parent: u32, out: &mut [u8]) -> usize
+    ensures { λ r. ⌜ Wrote (textFor expressionCommas parent) (now (out .entry)) (now (out .exit)) r ⌝ }
+{
+    match parent {
+        33 => put(b" |", out),
+        9 => put(b" ,", out),
+        10 => put(b" ,", out),
+        30 => put(b" ,", out),
+        31 => put(b" ,", out),
+        _ => 0,
+    }
+}
+
+// Between two of another class.
+fn put_list_comma(child: u32, out: &mut [u8]) -> usize
+    ensures { λ r. ⌜ Wrote (textFor listCommas child) (now (out .entry)) (now (out .exit)) r ⌝ }
+{
+    match child {
+        4 => put(b" ,", out),
+        5 => put(b" ,", out),
+        13 => put(b" ,", out),
+        17 => put(b" ,", out),
+        21 => put(b" ,", out),
+        _ => 0,
+    }
+}
+
+// Before the first expression.
+fn put_expression_open(parent: u32, out: &mut [u8]) -> usize
+    ensures { λ r. ⌜ Wrote (textFor expressionOpens parent) (now (out .entry)) (now (out .exit)) r ⌝ }
+{
+    match parent {
+        2 => put(b" {", out),
+        3 => put(b" {", out),
+        30 => put(b" <", out),
+        31 => put(b" <", out),
+        32 => put(b" {", out),
+        _ => 0,
+    }
+}
+
+// Before a named node.
+fn put_node_open(parent: u32, out: &mut [u8]) -> usize
+    ensures { λ r. ⌜ Wrote (textFor nodeOpens parent) (now (out .entry)) (now (out .exit)) r ⌝ }
+{
+    match parent {
+        12 => put(b" @else", out),
+        _ => 0,
+    }
+}
+
+// Before the first of another class.
+fn put_list_open(child: u32, out: &mut [u8]) -> usize
+    ensures { λ r. ⌜ Wrote (textFor listOpens child) (now (out .entry)) (now (out .exit)) r ⌝ }
+{
+    match child {
+        4 => put(b" <", out),
+        5 => put(b" [", out),
+        6 => put(b" =", out),
+        17 => put(b" @conflict {", out),
+        _ => 0,
+    }
+}
+
+// After the last of a class, where another follows.
+fn put_shut(child: u32, out: &mut [u8]) -> usize
+    ensures { λ r. ⌜ Wrote (textFor listShuts child) (now (out .entry)) (now (out .exit)) r ⌝ }
+{
+    match child {
+        4 => put(b" >", out),
+        5 => put(b" ]", out),
+        13 => put(b" ,", out),
+        _ => 0,
+    }
+}
+
+// After an expression, whatever follows.
+fn put_expression_tail(parent: u32, out: &mut [u8]) -> usize
+    ensures { λ r. ⌜ Wrote (textFor expressionTails parent) (now (out .entry)) (now (out .exit)) r ⌝ }
+{
+    match parent {
+        18 => put(b" }", out),
+        23 => put(b" } {", out),
+        _ => 0,
+    }
+}
+
+// After a source string.
+fn put_source_tail(parent: u32, out: &mut [u8]) -> usize
+    ensures { λ r. ⌜ Wrote (textFor sourceTails parent) (now (out .entry)) (now (out .exit)) r ⌝ }
+{
+    match parent {
+        16 => put(b" {", out),
+        18 => put(b" {", out),
+        _ => 0,
+    }
+}
+
+// After an external name.
+fn put_name_tail(child: u32, out: &mut [u8]) -> usize
+    ensures { λ r. ⌜ Wrote (textFor nameTails child) (now (out .entry)) (now (out .exit)) r ⌝ }
+{
+    match child {
+        26 => put(b" as", out),
+        _ => 0,
+    }
+}
+
+// A prop's `@`.
+fn put_prop_word(value: u32, out: &mut [u8]) -> usize
+    ensures { λ r. ⌜ Wrote (textFor propWords value) (now (out .entry)) (now (out .exit)) r ⌝ }
+{
+    match value {
+        1 => put(b"@", out),
+        _ => 0,
+    }
+}
+
+// An external specializer.
+fn put_external_word(value: u32, out: &mut [u8]) -> usize
+    ensures { λ r. ⌜ Wrote (textFor externalWords value) (now (out .entry)) (now (out .exit)) r ⌝ }
+{
+    match value {
+        1 => put(b"@external extend {", out),
+        2 => put(b"@external specialize {", out),
+        _ => 0,
+    }
+}
+
+// A specialize.
+fn put_specialize_word(value: u32, out: &mut [u8]) -> usize
+    ensures { λ r. ⌜ Wrote (textFor specializeWords value) (now (out .entry)) (now (out .exit)) r ⌝ }
+{
+    match value {
+        1 => put(b"@extend", out),
+        2 => put(b"@specialize", out),
+        _ => 0,
+    }
+}
+
+// A sequence that is explicitly empty.
+fn put_sequence_word(value: u32, out: &mut [u8]) -> usize
+    ensures { λ r. ⌜ Wrote (textFor sequenceWords value) (now (out .entry)) (now (out .exit)) r ⌝ }
+{
+    match value {
+        1 => put(b"( )", out),
+        _ => 0,
+    }
+}
+
+// The start of a set.
+fn put_set_word(value: u32, out: &mut [u8]) -> usize
+    ensures { λ r. ⌜ Wrote (textFor setWords value) (now (out .entry)) (now (out .exit)) r ⌝ }
+{
+    match value {
+        0 => put(b"$[", out),
+        1 => put(b"![", out),
+        _ => 0,
+    }
+}
+
+// A class.
+fn put_class_word(value: u32, out: &mut [u8]) -> usize
+    ensures { λ r. ⌜ Wrote (textFor classWords value) (now (out .entry)) (now (out .exit)) r ⌝ }
+{
+    match value {
+        0 => put(b"@asciiLetter", out),
+        1 => put(b"@asciiLowercase", out),
+        2 => put(b"@asciiUppercase", out),
+        3 => put(b"@digit", out),
+        4 => put(b"@whitespace", out),
+        5 => put(b"@eof", out),
+        _ => 0,
+    }
+}
+
+// A record of another kind, before its text.
+fn put_kind_word(kind: u32, out: &mut [u8]) -> usize
+    ensures { λ r. ⌜ Wrote (textFor kindWords kind) (now (out .entry)) (now (out .exit)) r ⌝ }
+{
+    match kind {
+        2 => put(b"@top ", out),
+        7 => put(b"{ ", out),
+        8 => put(b"@tokens {", out),
+        9 => put(b"@precedence {", out),
+        10 => put(b"@conflict {", out),
+        12 => put(b"@local tokens {", out),
+        14 => put(b"@context", out),
+        16 => put(b"@external tokens", out),
+        19 => put(b"@external propSource", out),
+        20 => put(b"@precedence {", out),
+        22 => put(b"@skip {", out),
+        23 => put(b"@skip {", out),
+        25 => put(b"@external prop", out),
+        39 => put(b"_", out),
+        41 => put(b"~ ", out),
+        42 => put(b"! ", out),
+        _ => 0,
+    }
+}
+
+// A precedence item's kind.
+fn put_prec_word(value: u32, out: &mut [u8]) -> usize
+    ensures { λ r. ⌜ Wrote (textFor precWords value) (now (out .entry)) (now (out .exit)) r ⌝ }
+{
+    match value {
+        1 => put(b" @left", out),
+        2 => put(b" @right", out),
+        3 => put(b" @cut", out),
+        _ => 0,
+    }
+}
+
+// After a `{ name }`.
+fn put_part_end(kind: u32, out: &mut [u8]) -> usize
+    ensures { λ r. ⌜ Wrote (textFor partEnds kind) (now (out .entry)) (now (out .exit)) r ⌝ }
+{
+    match kind {
+        7 => put(b" }", out),
+        _ => 0,
+    }
+}
+
+// A repeat's mark.
+fn put_repeat_word(value: u32, out: &mut [u8]) -> usize
+    ensures { λ r. ⌜ Wrote (textFor repeatWords value) (now (out .entry)) (now (out .exit)) r ⌝ }
+{
+    match value {
+        0 => put(b" ?", out),
+        1 => put(b" *", out),
+        2 => put(b" +", out),
+        _ => 0,
+    }
+}
+
+// After a list that may be left out.
+fn put_list_end(last: u32, out: &mut [u8]) -> usize
+    ensures { λ r. ⌜ Wrote (textFor listEnds last) (now (out .entry)) (now (out .exit)) r ⌝ }
+{
+    match last {
+        5 => put(b" ]", out),
+        30 => put(b" >", out),
+        _ => 0,
+    }
+}
+
+// After the children of a record of another kind.
+fn put_kind_end(kind: u32, out: &mut [u8]) -> usize
+    ensures { λ r. ⌜ Wrote (textFor kindEnds kind) (now (out .entry)) (now (out .exit)) r ⌝ }
+{
+    match kind {
+        2 => put(b" }", out),
+        3 => put(b" }", out),
+        8 => put(b" }", out),
+        9 => put(b" }", out),
+        10 => put(b" }", out),
+        12 => put(b" }", out),
+        18 => put(b" }", out),
+        20 => put(b" }", out),
+        22 => put(b" }", out),
+        23 => put(b" }", out),
+        31 => put(b" >", out),
+        32 => put(b" }", out),
+        37 => put(b"]", out),
+        _ => 0,
+    }
+}
+
+// After the last dialect, where no line follows.
+fn put_dialect_end(last: u32, out: &mut [u8]) -> usize
+    ensures { λ r. ⌜ Wrote (textFor dialectEnds last) (now (out .entry)) (now (out .exit)) r ⌝ }
+{
+    match last {
+        24 => put(b" }\n", out),
+        _ => 0,
+    }
+}
+
+// `@detectDelim`, the last line.
+fn put_detect_word(value: u32, out: &mut [u8]) -> usize
+    ensures { λ r. ⌜ Wrote (textFor detectWords value) (now (out .entry)) (now (out .exit)) r ⌝ }
+{
+    match value {
+        1 => put(b"@detectDelim\n", out),
+        _ => 0,
+    }
+}
+
+// Between two children of one class.
+fn put_comma(parent: u32, child: u32, out: &mut [u8]) -> usize
+    ensures { λ r. ⌜ Wrote (comma parent child) (now (out .entry)) (now (out .exit)) r ⌝ }
+{
+    match child {
+        30 => put_expression_comma(parent, out),
+        _ => put_list_comma(child, out),
+    }
+}
+
+// Before the first child of a class.
+fn put_open(parent: u32, child: u32, out: &mut [u8]) -> usize
+    ensures { λ r. ⌜ Wrote (opens parent child) (now (out .entry)) (now (out .exit)) r ⌝ }
+{
+    match child {
+        30 => put_expression_open(parent, out),
+        13 => put_node_open(parent, out),
+        _ => put_list_open(child, out),
+    }
+}
+
+// Between two lines.
+fn put_new_line(left: u32, child: u32, out: &mut [u8]) -> usize
+    ensures { λ r. ⌜ Wrote (newLine left child) (now (out .entry)) (now (out .exit)) r ⌝ }
+{
+    if child == 24 {
+        if left == 24 {
+            return put(b" ,", out);
+        }
+        return put(b"@dialects {", out);
+    }
+    if left == 24 {
+        return put(b" }\n", out);
+    }
+    0
+}
+
+// Between two children in lists.
+fn put_separator(parent: u32, left: u32, child: u32, out: &mut [u8]) -> usize
+    ensures { λ r. ⌜ Wrote (separator parent left child) (now (out .entry)) (now (out .exit)) r ⌝ }
+{
+    if left == child {
+        return put_comma(parent, child, out);
+    }
+    let n = put_shut(left, out);
+    let a = upto(n, out.len());
+    n + put_open(parent, child, &mut out[a..])
+}
+
+// Between two children.
+fn put_between(parent: u32, left: u32, child: u32, out: &mut [u8]) -> usize
+    ensures { λ r. ⌜ Wrote (between parent left child) (now (out .entry)) (now (out .exit)) r ⌝ }
+{
+    match parent {
+        1 => put_new_line(left, child, out),
+        8 => put_open(parent, child, out),
+        12 => put_open(parent, child, out),
+        23 => put_open(parent, child, out),
+        34 => put_open(parent, child, out),
+        37 => put_open(parent, child, out),
+        _ => put_separator(parent, left, child, out),
+    }
+}
+
+// After a child, whatever follows.
+fn put_tail(parent: u32, child: u32, out: &mut [u8]) -> usize
+    ensures { λ r. ⌜ Wrote (tail parent child) (now (out .entry)) (now (out .exit)) r ⌝ }
+{
+    match child {
+        30 => put_expression_tail(parent, out),
+        15 => put_source_tail(parent, out),
+        _ => put_name_tail(child, out),
+    }
+}
+
+// What stands before a record: a space, or an opening bracket.
+fn put_lead(setting: u32, kind: u32, value: u32, out: &mut [u8]) -> usize
+    ensures { λ r. ⌜ Wrote (lead setting kind value) (now (out .entry)) (now (out .exit)) r ⌝ }
+{
+    if is_loose(setting, kind, value) {
+        return put(b" (", out);
+    }
+    if is_bare(kind, value) {
+        return 0;
+    }
+    if is_line(setting, kind) {
+        return 0;
+    }
+    put(b" ", out)
+}
+
+// What stands after it: a closing bracket, or a line feed.
+fn put_ends(setting: u32, kind: u32, value: u32, out: &mut [u8]) -> usize
+    ensures { λ r. ⌜ Wrote (ends setting kind value) (now (out .entry)) (now (out .exit)) r ⌝ }
+{
+    if is_loose(setting, kind, value) {
+        return put(b" )", out);
+    }
+    if is_line(setting, kind) {
+        return put(b"\n", out);
+    }
+    0
+}
+
+// What stands before a record's text.
+fn put_before(kind: u32, value: u32, out: &mut [u8]) -> usize
+    ensures { λ r. ⌜ Wrote (before kind value) (now (out .entry)) (now (out .exit)) r ⌝ }
+{
+    match kind {
+        5 => put_prop_word(value, out),
+        18 => put_external_word(value, out),
+        31 => put_specialize_word(value, out),
+        34 => put_sequence_word(value, out),
+        37 => put_set_word(value, out),
+        40 => put_class_word(value, out),
+        _ => put_kind_word(kind, out),
+    }
+}
+
+// What stands after it.
+fn put_after(kind: u32, value: u32, out: &mut [u8]) -> usize
+    ensures { λ r. ⌜ Wrote (after kind value) (now (out .entry)) (now (out .exit)) r ⌝ }
+{
+    match kind {
+        21 => put_prec_word(value, out),
+        _ => put_part_end(kind, out),
+    }
+}
+
+// The end of an external block.
+fn put_block_end(last: u32, out: &mut [u8]) -> usize
+    ensures { λ r. ⌜ Wrote (blockEnd last) (now (out .entry)) (now (out .exit)) r ⌝ }
+{
+    if last == 17 {
+        return put(b" } }", out);
+    }
+    put(b" }", out)
+}
+
+// What stands after a record's children.
+fn put_close(kind: u32, value: u32, last: u32, out: &mut [u8]) -> usize
+    ensures { λ r. ⌜ Wrote (close kind value last) (now (out .entry)) (now (out .exit)) r ⌝ }
+{
+    match kind {
+        35 => put_repeat_word(value, out),
+        11 => put_list_end(last, out),
+        13 => put_list_end(last, out),
+        30 => put_list_end(last, out),
+        16 => put_block_end(last, out),
+        _ => put_kind_end(kind, out),
+    }
 }
