@@ -87,11 +87,11 @@ module _ (ws ts : List ℕ) where
   all-right lo (x ∷ xs) ys (a, b) = rw (shift lo (length xs)) at (all-right (suc lo) xs ys b)
 
   -- the last record of a branch is its own
-  root-at : (lo : ℕ) (r : Row) (bs : Branches) → All ws ts lo (nodes (branch r bs)) → At ws ts (lo + length (nodesAll bs)) (record { row = r; children = count bs })
+  pub root-at : (lo : ℕ) (r : Row) (bs : Branches) → All ws ts lo (nodes (branch r bs)) → At ws ts (lo + length (nodesAll bs)) (record { row = r; children = count bs })
   unfolding nodes All
   root-at lo r bs a = all-right lo (nodesAll bs) (record { row = r; children = count bs } ∷ []) a .0
 
-  past-root : (lo : ℕ) (r : Row) (bs : Branches) → lo + length (nodes (branch r bs)) ≡ suc (lo + length (nodesAll bs))
+  pub past-root : (lo : ℕ) (r : Row) (bs : Branches) → lo + length (nodes (branch r bs)) ≡ suc (lo + length (nodesAll bs))
   unfolding nodes
   past-root lo r bs = omega (arith, length-append (nodesAll bs) (record { row = r; children = count bs } ∷ []))
 
@@ -113,7 +113,7 @@ module _ (ws ts : List ℕ) where
         rw (e, f) (first-branches bs (lo + length (nodes b)) (suc n) (all-right lo (nodes b) (nodesAll bs) a)
         ∙ first-branch b lo n (all-left lo (nodes b) (nodesAll bs) a))
 
-  kind-last : (b : Branch) (lo : ℕ) → All ws ts lo (nodes b) → kindBefore ws (lo + length (nodes b)) ≡ kindOf b
+  pub kind-last : (b : Branch) (lo : ℕ) → All ws ts lo (nodes b) → kindBefore ws (lo + length (nodes b)) ≡ kindOf b
   unfolding kindBefore
   kind-last (branch r bs) lo a = rw (past-root lo r bs) (ap (λ (x : Node). x .row .kind) (root-at lo r bs a .is))
 
@@ -122,7 +122,7 @@ unfoldable pub before : Branches → Branches → Branches
 before []ᴮ cs = cs
 before (b ∷ᴮ bs) cs = b ∷ᴮ before bs cs
 
-nodes-before : (bs cs : Branches) → nodesAll (before bs cs) ≡ nodesAll bs ++ nodesAll cs
+pub nodes-before : (bs cs : Branches) → nodesAll (before bs cs) ≡ nodesAll bs ++ nodesAll cs
 unfolding before nodes
 nodes-before []ᴮ cs = refl
 nodes-before (b ∷ᴮ bs) cs = rw (nodes-before bs cs) (sym (append-assoc (nodes b) (nodesAll bs) (nodesAll cs)))

@@ -8,3 +8,5 @@ pub mod Walked
 pub mod WalkedExpressions
 pub mod WalkedDeclarations
 pub mod WalkedGrammar
+pub mod Runs
+pub mod Grammars

@@ -1,16 +1,24 @@
 -- How long the texts are that the walk writes for a record.
 -- Assumes nothing.
-use Prim.Native.Nat.{ℕ, _+_, _*_, _≤_}
+use Prim.Native.Nat.{ℕ, _+_, _-_, _*_, _≤_}
 use native.Mathlib.Omega.{arith}
 use mathlib.Core.Path.{_≡_, refl}
 use mathlib.Core.Bool.{Bool, true, false, _&&_, _||_}
 use mathlib.Core.List.{List, [], _∷_, _++_}
 use lib.Dec.{eqb, leb}
-use lib.ListN.{length, length-append}
+use lib.ListN.{length, drop, length-append, length-take, length-drop}
 use borrow.Author.Tests.{leb-true}
 use Rattle.basics.specs.Basics.{if_then_else_, letters, among}
 use Rattle.basics.proofs.Tests.{cases, both-true}
-use Rattle.writer.specs.Walk.{Entry, textFor, expressionCommas, listCommas, expressionOpens, nodeOpens, listOpens, listShuts, expressionTails, sourceTails, nameTails, propWords, externalWords, specializeWords, sequenceWords, setWords, classWords, kindWords, precWords, partEnds, repeatWords, listEnds, kindEnds, dialectEnds, detectWords, comma, opens, shuts, newLine, separator, between, source, tail, loose, isLine, bare, lead, ends, before, after, blockEnd, close}
+use Rattle.writer.specs.Walk.{Entry, textFor, expressionCommas, listCommas, expressionOpens, nodeOpens, listOpens, listShuts, expressionTails, sourceTails, nameTails, propWords, externalWords, specializeWords, sequenceWords, setWords, classWords, kindWords, precWords, partEnds, repeatWords, listEnds, kindEnds, dialectEnds, detectWords, comma, opens, shuts, newLine, separator, between, source, tail, loose, isLine, bare, lead, ends, before, spelled, after, own, blockEnd, close, class, setting, glue, front, back, closing}
+use Rattle.writer.specs.Spelling.{quoted, spanText, spell}
+use Rattle.writer.specs.Promise.{Wrote, Lent, rowAt}
+use Rattle.characters.specs.Spans.{Span, _upto_}
+use Rattle.lexer.specs.Tokens.{Kind}
+use Rattle.tree.specs.Records.{Row}
+use Rattle.tree.specs.Promise.{wordAt}
+use Rattle.writer.proofs.Bytes.{quoted-small}
+use Rattle.writer.proofs.Digits.{span-small}
 
 -- all texts of a table are at most so long
 unfoldable short : ℕ → List Entry → Bool
@@ -98,3 +106,51 @@ dialect-small l = text-small 32 dialectEnds refl l
 pub detect-small : (v : ℕ) → length (textFor detectWords v) ≤ 32
 unfolding short
 detect-small v = text-small 32 detectWords refl v
+
+-- ------------------------------------------------------------------ records
+
+-- a count of what was written is bounded as its text
+pub bounded : {t old new : List ℕ} {n m : ℕ} → Wrote t old new n → length t ≤ m → n ≤ m
+bounded w h = omega (arith, w .counts)
+
+-- a text lies in the texts
+pub row-small : {ws ts : List ℕ} → Lent ws ts → (i : ℕ) → length (rowAt ws ts i .text) ≤ 4294967296
+row-small {ws} {ts} l i =
+    let p : ℕ = wordAt ws i 2 in
+    let n : ℕ = wordAt ws i 3 in
+    omega (arith, l .sizes i, length-take (p + n - p) (drop p ts))
+
+pub spelled-small : (r : Row) → length (spelled r) ≤ length (r .text) * 2 + 32
+unfolding spelled spell
+spelled-small r =
+    let m : ℕ = length (r .text) * 2 + 32 in
+    either m (among (6 ∷ 11 ∷ 15 ∷ 36 ∷ []) (r .kind)) (spell (Kind.string (quoted (r .text)))) _ (omega (arith, length-append (quoted (r .text)) (0x22 ∷ []), quoted-small (r .text)))
+    (either m (eqb (r .kind) 38) (spanText (r .value upto r .second)) _ (omega (arith, span-small (r .value upto r .second)))
+    (either m (among (14 ∷ 16 ∷ 18 ∷ 19 ∷ 25 ∷ []) (r .kind)) [] (r .text) (omega arith) (omega arith)))
+
+pub own-small : (r : Row) → length (own r) ≤ length (r .text) * 2 + 96
+unfolding own
+own-small r =
+    simp length-append (omega (arith, before-small (r .kind) (r .value), spelled-small r, after-small (r .kind) (r .value)))
+
+pub source-small : (t : List ℕ) (c : ℕ) → length (source t c) ≤ length t + 32
+unfolding source
+source-small t c = either (length t + 32) (eqb c 15) ((letters " " ++ t) ++ letters " from") [] (omega (arith, length-append (letters " " ++ t) (letters " from"))) (omega arith)
+
+pub glue-small : (p : Row) (l c : ℕ) → length (glue p l c) ≤ length (p .text) + 96
+unfolding glue
+glue-small p l c = simp length-append (omega (arith, between-small (p .kind) l c, source-small (p .text) c))
+
+pub front-small : (p : Row) (l : ℕ) (r : Row) → length (front p l r) ≤ length (p .text) + length (r .text) * 2 + 224
+unfolding front
+front-small p l r =
+    simp length-append (omega (arith, glue-small p l (class (r .kind)), lead-small (setting (p .kind)) (r .kind) (r .value), own-small r))
+
+pub back-small : (p : ℕ) (r : Row) (l : ℕ) → length (back p r l) ≤ 96
+unfolding back
+back-small p r l =
+    simp length-append (omega (arith, close-small (r .kind) (r .value) l, ends-small (setting p) (r .kind) (r .value), tail-small p (class (r .kind))))
+
+pub closing-small : (v l : ℕ) → length (closing v l) ≤ 64
+unfolding closing
+closing-small v l = simp length-append (omega (arith, dialect-small l, detect-small v))

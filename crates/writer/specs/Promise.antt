@@ -1,12 +1,18 @@
 -- What the functions' contracts say beside the definitions.
 -- Assumes nothing.
-use Prim.Native.Nat.{ℕ, _+_, _/_, _%_, _≤_}
+use Prim.Native.Nat.{ℕ, _+_, _/_, _%_, _≤_, _<_, _^_}
 use mathlib.Core.Path.{_≡_}
 use mathlib.Core.List.{List, [], _∷_, _++_}
 use lib.Dec.{leb}
 use lib.ListN.{length, take, drop}
 use Rattle.basics.specs.Basics.{if_then_else_}
+use Rattle.tree.specs.Syntax.{GrammarDeclaration}
+use Rattle.tree.specs.Stored.{grammarWords, grammarTexts}
+use Rattle.tree.specs.Records.{Row, Branches, count, nodesAll}
+use Rattle.tree.specs.Promise.{countOf, wordAt, nodeAt}
+use Rattle.tree.proofs.Back.{All}
 use Rattle.writer.specs.Spelling.{hexDigit}
+use Rattle.writer.specs.NormalText.{normalText}
 
 -- A text goes to an output behind its first `at` bytes, and n counts to the text's end. Where that is within the output, the text stands
 -- there and every other byte is as before; where it is not, nothing is said of the bytes
@@ -24,3 +30,37 @@ pub record Wrote (text old new : List ℕ) (n : ℕ) : Type 0 where
 -- the hexadecimal digit of n at a power of 16, upper case; none where n is below that power
 unfoldable pub digitAt : (n unit : ℕ) → List ℕ
 digitAt n unit = if leb unit n then hexDigit (n / unit % 16) ∷ [] else []
+
+-- ------------------------------------------------------------------ records that are lent
+
+-- the texts of all records lie in the texts, and all is small enough for its bytes to be counted
+pub record Lent (ws ts : List ℕ) : Type 0 where
+  pub few : length ws ≤ 2 ^ 30
+  pub sizes : (i : ℕ) → wordAt ws i 3 < 2 ^ 32
+  pub inside : (i : ℕ) → i < countOf ws → wordAt ws i 2 + wordAt ws i 3 ≤ length ts
+
+-- a record but for the place of its text and its children
+abbrev pub rowAt : (ws ts : List ℕ) → ℕ → Row
+rowAt ws ts i = nodeAt ws ts i .row
+
+-- n branches stand before the record `end`
+pub record Run (ws ts : List ℕ) (n end : ℕ) : Type 0 where
+  pub lo : ℕ
+  pub branches : Branches
+  pub all : All ws ts lo (nodesAll branches)
+  pub counted : count branches ≡ n
+  pub ends : lo + length (nodesAll branches) ≡ end
+
+-- ------------------------------------------------------------------ the normal text of a stored grammar
+
+-- the words are the records of a grammar, and few enough for the bytes of its text to be counted; its texts are the front of the texts
+pub record Stored (ws ts : List ℕ) : Type 0 where
+  pub grammar : GrammarDeclaration ℕ
+  pub words : ws ≡ grammarWords grammar
+  pub few : length ws ≤ 2 ^ 30
+  pub more : List ℕ
+  pub texts : ts ≡ grammarTexts grammar ++ more
+
+-- the normal text is written, of whatever grammar it is
+abbrev pub WroteNormal : (ws ts old new : List ℕ) → (n : ℕ) → Type 0
+WroteNormal ws ts old new n = (s : Stored ws ts) → Wrote (normalText (s .grammar)) old new n

@@ -12,7 +12,9 @@ use Rattle.characters.specs.Spans.{_upto_}
 use Rattle.lexer.specs.Tokens.{Kind}
 use Rattle.tree.specs.Records.{Row, Branch, branch, Branches, []ᴮ, _∷ᴮ_}
 use Rattle.tree.specs.OneTree.{isExpression, kindOf}
+use Rattle.tree.specs.Promise.{wordAt, kindBefore}
 use Rattle.writer.specs.Spelling.{quoted, spanText, spell}
+use Rattle.writer.specs.Promise.{Wrote, rowAt, Run}
 
 infix 70 _says_
 -- a text for a number
@@ -208,6 +210,10 @@ close k v l =
 
 -- ------------------------------------------------------------------ trees
 
+-- the class of a record's last child, or 0
+unfoldable pub lastAt : (words : List ℕ) → ℕ → ℕ
+lastAt ws i = if eqb (wordAt ws i 6) 0 then 0 else class (kindBefore ws i)
+
 unfoldable pub front : (parent : Row) → (left : ℕ) → Row → List ℕ
 front p l r = (glue p l (class (r .kind)) ++ lead (setting (p .kind)) (r .kind) (r .value)) ++ own r
 
@@ -241,3 +247,14 @@ closing v l = textFor dialectEnds l ++ textFor detectWords v
 -- the text of a whole tree
 unfoldable pub treeText : Branch → List ℕ
 treeText (branch r bs) = branchesText r 0 bs ++ closing (r .value) (lastClass 0 bs)
+
+-- ------------------------------------------------------------------ what the walk promises
+
+-- the branch of the record i is written, as a child of the record `parent`; and so is a run of branches
+abbrev pub WroteOne : (ws ts : List ℕ) → (parent left i : ℕ) → (old new : List ℕ) → (n : ℕ) → Type 0
+WroteOne ws ts parent left i old new n =
+    (s : Run ws ts (wordAt ws i 6) i) → Wrote (branchText (rowAt ws ts parent) left (branch (rowAt ws ts i) (s .branches))) old new n
+
+abbrev pub WroteRun : (ws ts : List ℕ) → (parent left count end : ℕ) → (old new : List ℕ) → (n : ℕ) → Type 0
+WroteRun ws ts parent left count end old new n =
+    (s : Run ws ts count end) → Wrote (branchesText (rowAt ws ts parent) left (s .branches)) old new n

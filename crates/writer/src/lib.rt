@@ -6,18 +6,30 @@
 ghost use mathlib.Core.Path.{_≡_};
 ghost use mathlib.Core.Bool.{_||_};
 ghost use mathlib.Core.List.{[], _∷_};
-ghost use Prim.Native.Nat.{_+_, _*_, _≤_, _<_, _^_};
+ghost use Prim.Native.Nat.{_+_, _-_, _*_, _≤_, _<_, _^_};
 ghost use lib.ListN.{length, take, drop};
 ghost use Rattle.basics.specs.Basics.{is};
 ghost use Rattle.characters.specs.Spans.{_upto_};
 ghost use Rattle.lexer.specs.Tokens.{Kind};
 ghost use Rattle.writer.specs.Spelling.{quoted, hexDigit, hexFrom, codeText, spanText, spell};
-ghost use Rattle.writer.specs.Promise.{Adds, Wrote, digitAt};
-ghost use Rattle.writer.specs.Walk.{textFor, expressionCommas, listCommas, expressionOpens, nodeOpens, listOpens, listShuts, expressionTails, sourceTails, nameTails, propWords, externalWords, specializeWords, sequenceWords, setWords, classWords, kindWords, precWords, partEnds, repeatWords, listEnds, kindEnds, dialectEnds, detectWords, class as classD, comma, opens, shuts, newLine, separator, between, source, glue, tail, setting as settingD, loose, isLine, bare, lead, ends, before, spelled, after, own, blockEnd, close, front, back};
+ghost use Rattle.tree.specs.Promise.{countOf, wordAt};
+ghost use Rattle.writer.specs.Promise.{Adds, Wrote, digitAt, Lent, rowAt, Run, Stored, WroteNormal};
+ghost use Rattle.writer.specs.Walk.{textFor, expressionCommas, listCommas, expressionOpens, nodeOpens, listOpens, listShuts, expressionTails, sourceTails, nameTails, propWords, externalWords, specializeWords, sequenceWords, setWords, classWords, kindWords, precWords, partEnds, repeatWords, listEnds, kindEnds, dialectEnds, detectWords, class as classD, comma, opens, shuts, newLine, separator, between, source, glue, tail, setting as settingD, loose, isLine, bare, lead, ends, before, spelled, after, own, blockEnd, close, lastAt, front, back, WroteOne, WroteRun, closing};
+use tree::count;
+use tree::first;
 use tree::is_expression;
 use tree::kind_before;
 use tree::text;
 use tree::word;
+
+// The words of a record that are looked at.
+const KIND: usize = 0;
+
+const VALUE: usize = 4;
+
+const SECOND: usize = 5;
+
+const CHILDREN: usize = 6;
 
 // One byte, where there is room.
 fn put_byte(out: &mut [u8], n: usize, b: u8) -> usize
@@ -128,17 +140,33 @@ fn put_code(out: &mut [u8], n: usize, code: u32) -> usize
     put_byte(out, d, 0x7D)
 }
 
+fn wide(x: u32) -> usize
+    ensures { λ r. ⌜ r ≡ x ⌝ }
+{
+    x as usize
+}
+
+// The last code of a span that ends before `past`.
+fn last_code(past: u32) -> u32
+    ensures { λ r. ⌜ r ≡ past - 1 ⌝ }
+{
+    if past == 0 {
+        return 0;
+    }
+    past - 1
+}
+
 // A span of a set: its code where it has one, or its first and its last.
 fn put_span(out: &mut [u8], n: usize, first: u32, past: u32) -> usize
-    requires { ⌜ (first < past) × (n + 21 < 2 ^ 64) ⌝ }
+    requires { ⌜ n + 21 < 2 ^ 64 ⌝ }
     ensures { λ r. ⌜ Adds (spanText (first upto past)) (now (out .entry)) n (now (out .exit)) r ⌝ }
 {
     let a = put_code(out, n, first);
-    if first + 1 == past {
+    if wide(first) + 1 == wide(past) {
         return a;
     }
     let b = put_byte(out, a, 0x2D);
-    put_code(out, b, past - 1)
+    put_code(out, b, last_code(past))
 }
 
 // Where what follows n bytes goes, in an output of `len` bytes: past its end where they did not fit.
@@ -160,7 +188,7 @@ fn put(s: &[u8], out: &mut [u8]) -> usize
 
 // A stored text as a string token, at the front of an output.
 fn put_quoted(s: &[u8], out: &mut [u8]) -> usize
-    requires { ⌜ length (now s) ≤ 2 ^ 30 ⌝ }
+    requires { ⌜ length (now s) ≤ 2 ^ 32 ⌝ }
     ensures { λ r. ⌜ Wrote (spell (Kind.string (quoted (now (s .entry))))) (now (out .entry)) (now (out .exit)) r ⌝ }
 {
     put_string(out, 0, s, 0, s.len())
@@ -680,4 +708,226 @@ fn put_close(kind: u32, value: u32, last: u32, out: &mut [u8]) -> usize
         16 => put_block_end(last, out),
         _ => put_kind_end(kind, out),
     }
+}
+
+// The text of a record.
+fn put_text(records: &[u32], texts: &[u8], i: usize, out: &mut [u8]) -> usize
+    requires { ⌜ Lent (now records) (now texts) × (i < countOf (now records)) ⌝ }
+    ensures { λ r. ⌜ Wrote (rowAt (now (records .entry)) (now (texts .entry)) i .text) (now (out .entry)) (now (out .exit)) r ⌝ }
+{
+    put(text(records, texts, i), out)
+}
+
+// The text of a record as a string.
+fn put_text_quoted(records: &[u32], texts: &[u8], i: usize, out: &mut [u8]) -> usize
+    requires { ⌜ Lent (now records) (now texts) × (i < countOf (now records)) ⌝ }
+    ensures { λ r. ⌜ Wrote (spell (Kind.string (quoted (rowAt (now (records .entry)) (now (texts .entry)) i .text)))) (now (out .entry)) (now (out .exit)) r ⌝ }
+{
+    put_quoted(text(records, texts, i), out)
+}
+
+// The codes of a span.
+fn put_codes(first: u32, past: u32, out: &mut [u8]) -> usize
+    ensures { λ r. ⌜ Wrote (spanText (first upto past)) (now (out .entry)) (now (out .exit)) r ⌝ }
+{
+    put_span(out, 0, first, past)
+}
+
+// A record's own text: a string, a span's codes, none where it stands before the source string, or a name.
+fn put_spelled(records: &[u32], texts: &[u8], i: usize, out: &mut [u8]) -> usize
+    requires { ⌜ Lent (now records) (now texts) × (i < countOf (now records)) ⌝ }
+    ensures { λ r. ⌜ Wrote (spelled (rowAt (now (records .entry)) (now (texts .entry)) i)) (now (out .entry)) (now (out .exit)) r ⌝ }
+{
+    match word(records, i, KIND) {
+        6 => put_text_quoted(records, texts, i, out),
+        11 => put_text_quoted(records, texts, i, out),
+        15 => put_text_quoted(records, texts, i, out),
+        36 => put_text_quoted(records, texts, i, out),
+        38 => put_codes(word(records, i, VALUE), word(records, i, SECOND), out),
+        14 => 0,
+        16 => 0,
+        18 => 0,
+        19 => 0,
+        25 => 0,
+        _ => put_text(records, texts, i, out),
+    }
+}
+
+// A record by itself: what stands before its text, that, and what stands after it.
+fn put_own(records: &[u32], texts: &[u8], i: usize, out: &mut [u8]) -> usize
+    requires { ⌜ Lent (now records) (now texts) × (i < countOf (now records)) ⌝ }
+    ensures { λ r. ⌜ Wrote (own (rowAt (now (records .entry)) (now (texts .entry)) i)) (now (out .entry)) (now (out .exit)) r ⌝ }
+{
+    let kind = word(records, i, KIND);
+    let value = word(records, i, VALUE);
+    let mut n = put_before(kind, value, out);
+    let a = upto(n, out.len());
+    n += put_spelled(records, texts, i, &mut out[a..]);
+    let b = upto(n, out.len());
+    n + put_after(kind, value, &mut out[b..])
+}
+
+// The parent's name before a source string.
+fn put_source(records: &[u32], texts: &[u8], parent: usize, child: u32, out: &mut [u8]) -> usize
+    requires { ⌜ Lent (now records) (now texts) × (parent < countOf (now records)) ⌝ }
+    ensures { λ r. ⌜ Wrote (source (rowAt (now (records .entry)) (now (texts .entry)) parent .text) child) (now (out .entry)) (now (out .exit)) r ⌝ }
+{
+    if child != 15 {
+        return 0;
+    }
+    let mut n = put(b" ", out);
+    let a = upto(n, out.len());
+    n += put_text(records, texts, parent, &mut out[a..]);
+    let b = upto(n, out.len());
+    n + put(b" from", &mut out[b..])
+}
+
+// What stands between two children of a record.
+fn put_glue(
+    records: &[u32],
+    texts: &[u8],
+    parent: usize,
+    left: u32,
+    child: u32,
+    out: &mut [u8],
+) -> usize
+    requires { ⌜ Lent (now records) (now texts) × (parent < countOf (now records)) ⌝ }
+    ensures { λ r. ⌜ Wrote (glue (rowAt (now (records .entry)) (now (texts .entry)) parent) left child) (now (out .entry)) (now (out .exit)) r ⌝ }
+{
+    let n = put_between(word(records, parent, KIND), left, child, out);
+    let a = upto(n, out.len());
+    n + put_source(records, texts, parent, child, &mut out[a..])
+}
+
+// All that stands before the children of the record i, a child of the record `parent` behind one of the class `left`.
+fn put_front(
+    records: &[u32],
+    texts: &[u8],
+    parent: usize,
+    left: u32,
+    i: usize,
+    out: &mut [u8],
+) -> usize
+    requires { ⌜ Lent (now records) (now texts) × (parent < countOf (now records)) × (i < countOf (now records)) ⌝ }
+    ensures { λ r. ⌜ Wrote (front (rowAt (now (records .entry)) (now (texts .entry)) parent) left (rowAt (now (records .entry)) (now (texts .entry)) i)) (now (out .entry)) (now (out .exit)) r ⌝ }
+{
+    let kind = word(records, i, KIND);
+    let mut n = put_glue(records, texts, parent, left, class(kind), out);
+    let a = upto(n, out.len());
+    n += put_lead(
+        setting(word(records, parent, KIND)),
+        kind,
+        word(records, i, VALUE),
+        &mut out[a..],
+    );
+    let b = upto(n, out.len());
+    n + put_own(records, texts, i, &mut out[b..])
+}
+
+// The class of the last child of a record, or 0.
+fn last_class(records: &[u32], i: usize) -> u32
+    requires { ⌜ i < countOf (now records) ⌝ }
+    ensures { λ r. ⌜ r ≡ lastAt (now (records .entry)) i ⌝ }
+{
+    if word(records, i, CHILDREN) == 0 {
+        return 0;
+    }
+    class(kind_before(records, i))
+}
+
+// All that stands after them.
+fn put_back(records: &[u32], texts: &[u8], parent: usize, i: usize, out: &mut [u8]) -> usize
+    requires { ⌜ (parent < countOf (now records)) × (i < countOf (now records)) ⌝ }
+    ensures { λ r. ⌜ Wrote (back (rowAt (now (records .entry)) (now (texts .entry)) parent .kind) (rowAt (now (records .entry)) (now (texts .entry)) i) (lastAt (now (records .entry)) i)) (now (out .entry)) (now (out .exit)) r ⌝ }
+{
+    let kind = word(records, i, KIND);
+    let value = word(records, i, VALUE);
+    let above = word(records, parent, KIND);
+    let mut n = put_close(kind, value, last_class(records, i), out);
+    let a = upto(n, out.len());
+    n += put_ends(setting(above), kind, value, &mut out[a..]);
+    let b = upto(n, out.len());
+    n + put_tail(above, class(kind), &mut out[b..])
+}
+
+// How many children a record has.
+fn children(records: &[u32], i: usize) -> usize
+    requires { ⌜ i < countOf (now records) ⌝ }
+    ensures { λ r. ⌜ r ≡ wordAt (now (records .entry)) i 6 ⌝ }
+{
+    wide(word(records, i, CHILDREN))
+}
+
+// The branch whose record is i, a child of the record `parent` behind one of the class `left`.
+fn one(records: &[u32], texts: &[u8], parent: usize, left: u32, i: usize, out: &mut [u8]) -> usize
+    requires { ⌜ Lent (now records) (now texts) × (parent < countOf (now records)) × (i < countOf (now records)) × Run (now records) (now texts) (wordAt (now records) i 6) i ⌝ }
+    ensures { λ r. ⌜ WroteOne (now (records .entry)) (now (texts .entry)) parent left i (now (out .entry)) (now (out .exit)) r ⌝ }
+{
+    let mut n = put_front(records, texts, parent, left, i, out);
+    let a = upto(n, out.len());
+    n += run(records, texts, i, 0, i, children(records, i), &mut out[a..]);
+    let b = upto(n, out.len());
+    n + put_back(records, texts, parent, i, &mut out[b..])
+}
+
+// The last `count` branches that end before the record `end`, first to last: each half of them by itself, so that calls stand no deeper
+// for many siblings than their number's digits.
+fn run(
+    records: &[u32],
+    texts: &[u8],
+    parent: usize,
+    left: u32,
+    end: usize,
+    count: usize,
+    out: &mut [u8],
+) -> usize
+    requires { ⌜ Lent (now records) (now texts) × (parent < countOf (now records)) × (end ≤ countOf (now records)) × Run (now records) (now texts) count end ⌝ }
+    ensures { λ r. ⌜ WroteRun (now (records .entry)) (now (texts .entry)) parent left count end (now (out .entry)) (now (out .exit)) r ⌝ }
+{
+    if count == 0 {
+        return 0;
+    }
+    if count == 1 {
+        return one(records, texts, parent, left, end - 1, out);
+    }
+    let half = count / 2;
+    let mid = first(records, end, half);
+    let n = run(records, texts, parent, left, mid, count - half, out);
+    let a = upto(n, out.len());
+    n
+        + run(
+            records,
+            texts,
+            parent,
+            class(kind_before(records, mid)),
+            end,
+            half,
+            &mut out[a..],
+        )
+}
+
+// What stands after the last line: the end of the dialects, and `@detectDelim`.
+fn put_closing(value: u32, last: u32, out: &mut [u8]) -> usize
+    ensures { λ r. ⌜ Wrote (closing value last) (now (out .entry)) (now (out .exit)) r ⌝ }
+{
+    let n = put_dialect_end(last, out);
+    let a = upto(n, out.len());
+    n + put_detect_word(value, &mut out[a..])
+}
+
+// The normal text of a grammar at the front of the output, and how many bytes it has. Where it does not fit, it is counted all the same, and
+// nothing is said of the output's bytes: a call with no bytes lent measures.
+pub fn normal_text(records: &[u32], texts: &[u8], out: &mut [u8]) -> usize
+    requires { ⌜ Stored (now records) (now texts) ⌝ }
+    ensures { λ r. ⌜ WroteNormal (now (records .entry)) (now (texts .entry)) (now (out .entry)) (now (out .exit)) r ⌝ }
+{
+    let root = count(records) - 1;
+    let n = run(records, texts, root, 0, root, children(records, root), out);
+    let a = upto(n, out.len());
+    n
+        + put_closing(
+            word(records, root, VALUE),
+            last_class(records, root),
+            &mut out[a..],
+        )
 }
