@@ -7,7 +7,7 @@ use mathlib.Core.List.{List, [], _∷_, _++_, map, append-assoc, append-nil}
 use lib.ListN.{length, take, drop, length-append, length-take, length-drop}
 use Rattle.tree.specs.Records.{Row, Branch, branch, Branches, []ᴮ, _∷ᴮ_, count, Node, nodes, nodesAll}
 use Rattle.tree.specs.OneTree.{kindOf, inOrder, rowOf}
-use Rattle.tree.specs.Promise.{wordAt, recordAt, nodeAt, firstOf, kindBefore, kindsBack}
+use Rattle.tree.specs.Promise.{wordAt, recordAt, nodeAt, At, All, firstOf, kindBefore, kindsBack}
 
 -- ------------------------------------------------------------------ one record back
 
@@ -52,16 +52,6 @@ first-low ws (suc end) zero = omega arith
 first-low ws (suc end) (suc n) = omega (arith, first-low ws end (n + wordAt ws end 6))
 
 -- ------------------------------------------------------------------ records that are nodes
-
--- the record i with its text is the node x
-pub record At (ws ts : List ℕ) (i : ℕ) (x : Node) : Type 0 where
-  pub is : nodeAt ws ts i ≡ x
-  pub inside : wordAt ws i 2 + wordAt ws i 3 ≤ length ts
-
--- the records from `lo` on are the nodes
-unfoldable pub All : (ws ts : List ℕ) → ℕ → List Node → Type 0
-All ws ts lo [] = Unit
-All ws ts lo (x ∷ xs) = At ws ts lo x × All ws ts (suc lo) xs
 
 module _ (ws ts : List ℕ) where
   shift : (lo n : ℕ) → suc lo + n ≡ lo + suc n

@@ -8,8 +8,7 @@ use native.Mathlib.Decide.{decLt}
 use lib.ListN.{length, drop, getD, length-append}
 use lib.Seq.{getD-append-add}
 use Rattle.tree.specs.Records.{Row, Branch, Node, nodes, Record, width, wordsOf, placeOf, recordOf, recordsFrom, words, textsOf, records, texts}
-use Rattle.tree.specs.Promise.{countOf, wordAt, nodeAt}
-use Rattle.tree.proofs.Back.{At, All}
+use Rattle.tree.specs.Promise.{countOf, wordAt, nodeAt, At, All}
 use Rattle.tree.proofs.Encoded.{Lies, lies-length, lies-after, lies-part, cut-text}
 
 -- behind lo records, the word k

@@ -8,8 +8,8 @@ use lib.ListN.{length}
 use Rattle.tree.specs.Syntax.{GrammarDeclaration}
 use Rattle.tree.specs.Records.{Row, Branch, branch, Branches, count, Node, nodes, nodesAll, records, texts, words}
 use Rattle.tree.specs.Stored.{grammarBranch, grammarRecords, grammarTexts, grammarWords}
-use Rattle.tree.specs.Promise.{countOf, wordAt}
-use Rattle.tree.proofs.Back.{All, all-left, root-at, past-root, nodes-some}
+use Rattle.tree.specs.Promise.{countOf, wordAt, All}
+use Rattle.tree.proofs.Back.{all-left, root-at, past-root, nodes-some}
 use Rattle.tree.proofs.Standing.{stands, stand-all, all-inside}
 use Rattle.writer.specs.NormalText.{normalText}
 use Rattle.writer.specs.Promise.{Lent, rowAt, Run, Stored}

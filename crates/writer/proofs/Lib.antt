@@ -2,7 +2,6 @@ pub mod Back
 pub mod Writes
 pub mod Digits
 pub mod Bytes
-pub mod Spaces
 pub mod Small
 pub mod Walked
 pub mod WalkedExpressions

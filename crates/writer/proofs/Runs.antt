@@ -11,8 +11,8 @@ use borrow.Author.Tests.{ne-eqb, eq-eqb}
 use Rattle.basics.specs.Basics.{if_then_else_}
 use Rattle.tree.specs.Records.{Row, Branch, branch, Branches, []ᴮ, _∷ᴮ_, count, Node, nodes, nodesAll}
 use Rattle.tree.specs.OneTree.{kindOf}
-use Rattle.tree.specs.Promise.{wordAt, firstOf, kindBefore}
-use Rattle.tree.proofs.Back.{All, all-left, all-right, root-at, past-root, kind-last, before, nodes-before, nodes-some, first-last}
+use Rattle.tree.specs.Promise.{wordAt, firstOf, kindBefore, All}
+use Rattle.tree.proofs.Back.{all-left, all-right, root-at, past-root, kind-last, before, nodes-before, nodes-some, first-last}
 use Rattle.writer.specs.Promise.{Wrote, Lent, rowAt, Run}
 use Rattle.writer.specs.Walk.{class, front, back, lastAt, lastClass, branchText, branchesText}
 use Rattle.writer.proofs.Small.{row-small, front-small, back-small}

@@ -10,7 +10,7 @@ use lib.ListN.{length, drop, length-append, length-take, length-drop}
 use borrow.Author.Tests.{leb-true}
 use Rattle.basics.specs.Basics.{if_then_else_, letters, among}
 use Rattle.basics.proofs.Tests.{cases, both-true}
-use Rattle.writer.specs.Walk.{Entry, textFor, expressionCommas, listCommas, expressionOpens, nodeOpens, listOpens, listShuts, expressionTails, sourceTails, nameTails, propWords, externalWords, specializeWords, sequenceWords, setWords, classWords, kindWords, precWords, partEnds, repeatWords, listEnds, kindEnds, dialectEnds, detectWords, comma, opens, shuts, newLine, separator, between, source, tail, loose, isLine, bare, lead, ends, before, spelled, after, own, blockEnd, close, class, setting, glue, front, back, closing}
+use Rattle.writer.specs.Walk.{Entry, textFor, expressionCommas, listCommas, expressionOpens, nodeOpens, listOpens, listShuts, expressionTails, sourceTails, nameTails, propWords, externalWords, specializeWords, sequenceWords, setWords, classWords, kindWords, precWords, partEnds, repeatWords, listEnds, kindEnds, dialectEnds, detectWords, comma, opens, shuts, newLine, separator, between, source, tail, inBrackets, isLine, tokenless, lead, ends, before, spelled, after, own, blockEnd, close, class, setting, link, front, back, closing}
 use Rattle.writer.specs.Spelling.{quoted, spanText, spell}
 use Rattle.writer.specs.Promise.{Wrote, Lent, rowAt}
 use Rattle.characters.specs.Spans.{Span, _upto_}
@@ -72,11 +72,11 @@ tail-small p c =
 
 pub lead-small : (s k v : ℕ) → length (lead s k v) ≤ 32
 unfolding lead
-lead-small s k v = either 32 (loose s k v) (letters " (") _ (omega arith) (either 32 (bare k v || isLine s k) [] (letters " ") (omega arith) (omega arith))
+lead-small s k v = either 32 (inBrackets s k v) (letters " (") _ (omega arith) (either 32 (tokenless k v || isLine s k) [] (letters " ") (omega arith) (omega arith))
 
 pub ends-small : (s k v : ℕ) → length (ends s k v) ≤ 32
 unfolding ends
-ends-small s k v = either 32 (loose s k v) (letters " )") _ (omega arith) (either 32 (isLine s k) (letters "\n") [] (omega arith) (omega arith))
+ends-small s k v = either 32 (inBrackets s k v) (letters " )") _ (omega arith) (either 32 (isLine s k) (letters "\n") [] (omega arith) (omega arith))
 
 pub before-small : (k v : ℕ) → length (before k v) ≤ 32
 unfolding short before
@@ -137,14 +137,14 @@ pub source-small : (t : List ℕ) (c : ℕ) → length (source t c) ≤ length t
 unfolding source
 source-small t c = either (length t + 32) (eqb c 15) ((letters " " ++ t) ++ letters " from") [] (omega (arith, length-append (letters " " ++ t) (letters " from"))) (omega arith)
 
-pub glue-small : (p : Row) (l c : ℕ) → length (glue p l c) ≤ length (p .text) + 96
-unfolding glue
-glue-small p l c = simp length-append (omega (arith, between-small (p .kind) l c, source-small (p .text) c))
+pub link-small : (p : Row) (l c : ℕ) → length (link p l c) ≤ length (p .text) + 96
+unfolding link
+link-small p l c = simp length-append (omega (arith, between-small (p .kind) l c, source-small (p .text) c))
 
 pub front-small : (p : Row) (l : ℕ) (r : Row) → length (front p l r) ≤ length (p .text) + length (r .text) * 2 + 224
 unfolding front
 front-small p l r =
-    simp length-append (omega (arith, glue-small p l (class (r .kind)), lead-small (setting (p .kind)) (r .kind) (r .value), own-small r))
+    simp length-append (omega (arith, link-small p l (class (r .kind)), lead-small (setting (p .kind)) (r .kind) (r .value), own-small r))
 
 pub back-small : (p : ℕ) (r : Row) (l : ℕ) → length (back p r l) ≤ 96
 unfolding back

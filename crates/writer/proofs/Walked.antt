@@ -15,7 +15,7 @@ use Rattle.tree.specs.OneTree.{kindOf}
 use Rattle.writer.specs.Spelling.{quoted, spell, spaced}
 use Rattle.tree.specs.Stored as Stored
 use Rattle.writer.specs.NormalText.{each, eachAfter, commas, bracketed, mark}
-use Rattle.writer.specs.Walk.{class, between, separator, source, glue, tail, setting, lead, ends, before, spelled, after, own, close, blockEnd, front, back, lastClass, branchText, branchesText}
+use Rattle.writer.specs.Walk.{class, between, separator, source, link, tail, setting, lead, ends, before, spelled, after, own, close, blockEnd, front, back, lastClass, branchText, branchesText}
 use Rattle.writer.proofs.Bytes.{string-bytes, encode-append}
 
 abbrev pub classOf : Branch → ℕ
@@ -26,8 +26,8 @@ classOf b = class (kindOf b)
 unfoldable pub sourceOn : List ℕ → ℕ → List ℕ → List ℕ
 sourceOn t c rest = if eqb c 15 then 0x20 ∷ (t ++ (letters " from" ++ rest)) else rest
 
-abbrev pub glueOn : Row → (left child : ℕ) → List ℕ → List ℕ
-glueOn p l c rest = between (p .kind) l c ++ sourceOn (p .text) c rest
+abbrev pub linkOn : Row → (left child : ℕ) → List ℕ → List ℕ
+linkOn p l c rest = between (p .kind) l c ++ sourceOn (p .text) c rest
 
 abbrev pub ownOn : Row → List ℕ → List ℕ
 ownOn r rest = before (r .kind) (r .value) ++ (spelled r ++ (after (r .kind) (r .value) ++ rest))
@@ -40,7 +40,7 @@ unfoldable mutual
 
   pub walks : Row → ℕ → Branches → List ℕ → List ℕ
   walks p l []ᴮ rest = rest
-  walks p l (b ∷ᴮ bs) rest = glueOn p l (classOf b) (body (setting (p .kind)) b (tail (p .kind) (classOf b) ++ walks p (classOf b) bs rest))
+  walks p l (b ∷ᴮ bs) rest = linkOn p l (classOf b) (body (setting (p .kind)) b (tail (p .kind) (classOf b) ++ walks p (classOf b) bs rest))
 
 source-on : (t : List ℕ) (c : ℕ) (rest : List ℕ) → sourceOn t c rest ≡ source t c ++ rest
 unfolding source sourceOn
@@ -48,9 +48,9 @@ source-on t c rest =
     cases (eqb c 15) (λ e. rw (e, ← append-assoc t (letters " from") rest)) (λ e. rw e)
 
 mutual
-  unfolding body branchText front back glue own
+  unfolding body branchText front back link own
 
-  walk-on : (b : Branch) (p : Row) (l : ℕ) (rest : List ℕ) → glueOn p l (classOf b) (body (setting (p .kind)) b (tail (p .kind) (classOf b) ++ rest)) ≡ branchText p l b ++ rest
+  walk-on : (b : Branch) (p : Row) (l : ℕ) (rest : List ℕ) → linkOn p l (classOf b) (body (setting (p .kind)) b (tail (p .kind) (classOf b) ++ rest)) ≡ branchText p l b ++ rest
   walk-on (branch r bs) p l rest =
       let z : List ℕ = close (r .kind) (r .value) (lastClass 0 bs) ++ (ends (setting (p .kind)) (r .kind) (r .value) ++ (tail (p .kind) (class (r .kind)) ++ rest)) in
       rw (source-on (p .text) (class (r .kind)), walks-on bs r 0 z) (simp append-assoc)

@@ -15,7 +15,7 @@ use Rattle.tree.specs.Stored.{full, named, valued, plain, leaf, propBranch, spe
 use Rattle.tree.specs.Stored as Stored
 use Rattle.writer.specs.Spelling.{quoted, spell}
 use Rattle.writer.specs.NormalText.{propTokens, each, eachAfter, commas, bracketed, mark, word, at, string, identifier, fromTokens, specializeWord, propsTokens, expressionTokens, bodyTokens, ruleTokens, topRuleTokens, referenceTokens, tokenPrecTokens, tokenConflictTokens, literalTokens, namedNodeTokens, fallbackTokens, precTokens, precItemTokens, conflictsTokens, externalSetTokens, declarationTokens, externalPropTokens}
-use Rattle.writer.specs.Walk.{textFor, comma, opens, shuts, between, separator, tail, setting, loose, isLine, bare, lead, ends, before, spelled, after, close, blockEnd, lastClass}
+use Rattle.writer.specs.Walk.{textFor, comma, opens, shuts, between, separator, tail, setting, inBrackets, isLine, tokenless, lead, ends, before, spelled, after, close, blockEnd, lastClass}
 use Rattle.writer.specs.Walk as Walk
 use Rattle.writer.proofs.Walked.{classOf, sourceOn, body, walks, led, led-string, Child, child, children-after, children, children-commas, children-bracketed, last-each}
 use Rattle.writer.proofs.WalkedExpressions.{Holds, prop-child, props, expression-class, expression-child, expression}
@@ -34,7 +34,7 @@ record Ruled (k : ℕ) : Type 0 where
   params-next : between k 4 4 ≡ letters " ,"
 
 param : (n : Identifier ℕ) (ks : List Kind) (z : List ℕ) → body 0 (nameBranch 4 n) (led ks z) ≡ led (identifier n ks) z
-unfolding body lead loose isLine bare before spelled after close blockEnd ends textFor led encode encodeAll spell
+unfolding body lead inBrackets isLine tokenless before spelled after close blockEnd ends textFor led encode encodeAll spell
 param n ks z = refl
 
 module _ (p : Row) (h : Ruled (p .kind)) (r : RuleDeclaration ℕ) (ks : List Kind) (z : List ℕ) where
@@ -97,11 +97,11 @@ top-ruled = record {
 }
 
 pub rule-says : (r : RuleDeclaration ℕ) (ks : List Kind) (z : List ℕ) → body 0 (ruleBranch 3 r) (led ks z) ≡ led (ruleTokens r ks) z
-unfolding body lead loose isLine bare before spelled after close blockEnd ends textFor led encode encodeAll spell
+unfolding body lead inBrackets isLine tokenless before spelled after close blockEnd ends textFor led encode encodeAll spell
 rule-says r ks z = ap (λ (x : List ℕ). 0x20 ∷ (encodeAll (r .id .name) ++ x)) (rule-children (named 3 (r .id .start) (r .id .name)) ruled r ks z)
 
 pub top-rule-says : (r : RuleDeclaration ℕ) (ks : List Kind) (z : List ℕ) → body 0 (ruleBranch 2 r) (led ks z) ≡ led (topRuleTokens r ks) z
-unfolding body lead loose isLine bare before spelled after close blockEnd ends textFor led encode encodeAll spell
+unfolding body lead inBrackets isLine tokenless before spelled after close blockEnd ends textFor led encode encodeAll spell
 top-rule-says r ks z = ap (λ (x : List ℕ). 0x20 ∷ (letters "@top " ++ (encodeAll (r .id .name) ++ x))) (rule-children (named 2 (r .id .start) (r .id .name)) top-ruled r ks z)
 
 -- ------------------------------------------------------------------ token blocks
@@ -110,12 +110,12 @@ reference-child : (k : ℕ) → setting k ≡ 0 → tail k 30 ≡ [] → Child r
 reference-child k e f = record { says = λ r. expression (referred r); is = λ r. expression-class (referred r); none = e; alone = f; other = refl }
 
 token-prec-says : (x : TokenPrecDeclaration ℕ) (ks : List Kind) (z : List ℕ) → body 0 (tokenPrecBranch x) (led ks z) ≡ led (tokenPrecTokens x ks) z
-unfolding body lead loose isLine bare before spelled after close blockEnd ends textFor between separator comma shuts opens setting tail led encode encodeAll spell
+unfolding body lead inBrackets isLine tokenless before spelled after close blockEnd ends textFor between separator comma shuts opens setting tail led encode encodeAll spell
 token-prec-says x ks z =
     ap (λ (y : List ℕ). 0x20 ∷ (letters "@precedence {" ++ y)) (children-commas (plain 9 (x .start)) (reference-child 9 refl refl) (led (mark "}" ks) z) z 0 refl refl (x .items) []ᴮ (mark "}" ks) refl refl)
 
 token-conflict-says : (x : TokenConflictDeclaration ℕ) (ks : List Kind) (z : List ℕ) → body 0 (tokenConflictBranch x) (led ks z) ≡ led (tokenConflictTokens x ks) z
-unfolding body lead loose isLine bare before spelled after close blockEnd ends textFor between separator comma shuts opens setting tail led encode encodeAll spell
+unfolding body lead inBrackets isLine tokenless before spelled after close blockEnd ends textFor between separator comma shuts opens setting tail led encode encodeAll spell
 token-conflict-says x ks z =
     let p : Row = plain 10 (x .start) in
     let rest : List ℕ = led (mark "}" ks) z in
@@ -137,18 +137,18 @@ over-props k p t h (x ∷ xs) ks z c =
     ∙ ap (λ (y : List ℕ). y ++ led (propTokens x js) z) (h .first)
 
 literal-says : (x : LiteralDeclaration ℕ) (ks : List Kind) (z : List ℕ) → body 0 (literalBranch x) (led ks z) ≡ led (literalTokens x ks) z
-unfolding body lead loose isLine bare before spelled after close blockEnd ends textFor between separator comma shuts opens setting
+unfolding body lead inBrackets isLine tokenless before spelled after close blockEnd ends textFor between separator comma shuts opens setting
 literal-says x ks z =
     ap (λ (y : List ℕ). 0x20 ∷ (spell (Kind.string (quoted (encodeAll (x .literal)))) ++ y)) (over-props 11 (x .start) (x .literal) (record { none = refl; first = refl; next = refl }) (x .props) ks z (λ l. refl))
     ∙ sym (led-string (x .literal) (propsTokens (x .props) ks) z)
 
 node-says : (x : NamedNode ℕ) (ks : List Kind) (z : List ℕ) → body 0 (namedNodeBranch x) (led ks z) ≡ led (namedNodeTokens x ks) z
-unfolding body lead loose isLine bare before spelled after close blockEnd ends textFor between separator comma shuts opens setting led encode encodeAll spell
+unfolding body lead inBrackets isLine tokenless before spelled after close blockEnd ends textFor between separator comma shuts opens setting led encode encodeAll spell
 node-says x ks z =
     ap (λ (y : List ℕ). 0x20 ∷ (encodeAll (x .id .name) ++ y)) (over-props 13 (x .id .start) (x .id .name) (record { none = refl; first = refl; next = refl }) (x .props) ks z (λ l. refl))
 
 tokens-says : (x : Syntax.TokenDeclaration ℕ) (ks : List Kind) (z : List ℕ) → body 0 (declarationBranch (tokens x)) (led ks z) ≡ led (declarationTokens (tokens x) ks) z
-unfolding declarationBranch declarationTokens body lead loose isLine bare before spelled after close blockEnd ends textFor between separator opens setting tail Walk.class led encode encodeAll spell
+unfolding declarationBranch declarationTokens body lead inBrackets isLine tokenless before spelled after close blockEnd ends textFor between separator opens setting tail Walk.class led encode encodeAll spell
 tokens-says x ks z =
     let p : Row = plain 8 (x .start) in
     let rest : List ℕ = led (mark "}" ks) z in
@@ -176,7 +176,7 @@ fallback (some x) p l ks z =
     child (plain 12 p) c (led ks z) z l x []ᴮ ks refl
 
 local-says : (x : Syntax.LocalTokenDeclaration ℕ) (ks : List Kind) (z : List ℕ) → body 0 (declarationBranch (localTokens x)) (led ks z) ≡ led (declarationTokens (localTokens x) ks) z
-unfolding declarationBranch declarationTokens body lead loose isLine bare before spelled after close blockEnd ends textFor between separator opens setting tail Walk.class led encode encodeAll spell
+unfolding declarationBranch declarationTokens body lead inBrackets isLine tokenless before spelled after close blockEnd ends textFor between separator opens setting tail Walk.class led encode encodeAll spell
 local-says x ks z =
     let p : Row = plain 12 (x .start) in
     let rest : List ℕ = led (mark "}" ks) z in
@@ -193,7 +193,7 @@ local-says x ks z =
 -- ------------------------------------------------------------------ sources
 
 source-says : (s : List ℕ) (ks : List Kind) (z : List ℕ) → body 0 (sourceBranch s) (led ks z) ≡ led (string s ks) z
-unfolding body lead loose isLine bare before spelled after close blockEnd ends textFor
+unfolding body lead inBrackets isLine tokenless before spelled after close blockEnd ends textFor
 source-says s ks z = sym (led-string s ks z)
 
 -- `name from`, before a source string
@@ -201,15 +201,15 @@ abbrev from : List ℕ → List ℕ → List ℕ
 from t y = 0x20 ∷ (encodeAll t ++ (letters " from" ++ y))
 
 context-says : (x : Syntax.ContextDeclaration ℕ) (ks : List Kind) (z : List ℕ) → body 0 (declarationBranch (context x)) (led ks z) ≡ led (declarationTokens (context x) ks) z
-unfolding declarationBranch declarationTokens body lead loose isLine bare before spelled after close blockEnd ends textFor between separator shuts opens sourceOn setting tail Walk.class led encode encodeAll spell
+unfolding declarationBranch declarationTokens body lead inBrackets isLine tokenless before spelled after close blockEnd ends textFor between separator shuts opens sourceOn setting tail Walk.class led encode encodeAll spell
 context-says x ks z = ap (λ (y : List ℕ). 0x20 ∷ (letters "@context" ++ from (x .id) y)) (source-says (x .source) ks z)
 
 prop-source-says : (x : Syntax.ExternalPropSourceDeclaration ℕ) (ks : List Kind) (z : List ℕ) → body 0 (declarationBranch (externalPropSource x)) (led ks z) ≡ led (declarationTokens (externalPropSource x) ks) z
-unfolding declarationBranch declarationTokens body lead loose isLine bare before spelled after close blockEnd ends textFor between separator shuts opens sourceOn setting tail Walk.class led encode encodeAll spell
+unfolding declarationBranch declarationTokens body lead inBrackets isLine tokenless before spelled after close blockEnd ends textFor between separator shuts opens sourceOn setting tail Walk.class led encode encodeAll spell
 prop-source-says x ks z = ap (λ (y : List ℕ). 0x20 ∷ (letters "@external propSource" ++ from (x .id) y)) (source-says (x .source) ks z)
 
 pub external-prop-says : (x : ExternalPropDeclaration ℕ) (ks : List Kind) (z : List ℕ) → body 0 (externalPropBranch x) (led ks z) ≡ led (externalPropTokens x ks) z
-unfolding externalPropTokens body lead loose isLine bare before spelled after close blockEnd ends textFor between separator shuts opens sourceOn setting tail Walk.class led encode encodeAll spell
+unfolding externalPropTokens body lead inBrackets isLine tokenless before spelled after close blockEnd ends textFor between separator shuts opens sourceOn setting tail Walk.class led encode encodeAll spell
 external-prop-says x ks z =
     ap (λ (y : List ℕ). 0x20 ∷ (letters "@external prop" ++ (0x20 ∷ (encodeAll (x .externalId .name) ++ (letters " as" ++ from (x .id) y))))) (source-says (x .source) ks z)
 
@@ -221,7 +221,7 @@ external-nodes k e = record { says = node-says; is = λ y. refl; none = e; alone
 
 -- names of conflicts behind a node or the source
 conflict-child : Child (nameBranch 17) identifier 16 17
-unfolding Walk.class tail textFor setting body lead loose isLine bare before spelled after close blockEnd ends led encode encodeAll spell
+unfolding Walk.class tail textFor setting body lead inBrackets isLine tokenless before spelled after close blockEnd ends led encode encodeAll spell
 conflict-child = record { says = λ n ks z. refl; is = λ y. refl; none = refl; alone = refl; other = refl }
 
 -- the conflicts to the end of the block
@@ -258,14 +258,14 @@ block (x ∷ xs) (n ∷ ns) p t ks z =
     ∙ ap (λ (y : List ℕ). letters " {" ++ y) (child r c rest z 15 x (Stored.each namedNodeBranch xs bs) (eachAfter namedNodeTokens xs js) (children-after r c rest z refl xs bs js (conflicts n ns p 13 t ks z)))
 
 external-tokens-says : (x : Syntax.ExternalTokenDeclaration ℕ) (ks : List Kind) (z : List ℕ) → body 0 (declarationBranch (externalTokens x)) (led ks z) ≡ led (declarationTokens (externalTokens x) ks) z
-unfolding declarationBranch declarationTokens body lead loose isLine bare before spelled after close blockEnd ends textFor between separator comma shuts opens sourceOn setting tail Walk.class lastClass led encode encodeAll spell
+unfolding declarationBranch declarationTokens body lead inBrackets isLine tokenless before spelled after close blockEnd ends textFor between separator comma shuts opens sourceOn setting tail Walk.class lastClass led encode encodeAll spell
 external-tokens-says x ks z =
     let js : List Kind = externalSetTokens (x .tokens) (x .conflicts) ks in
     ap (λ (y : List ℕ). 0x20 ∷ (letters "@external tokens" ++ from (x .id) (body 0 (sourceBranch (x .source)) y))) (block (x .tokens) (x .conflicts) (x .start) (x .id) ks z)
     ∙ ap (λ (y : List ℕ). 0x20 ∷ (letters "@external tokens" ++ from (x .id) y)) (source-says (x .source) js z)
 
 specializer-says : (x : Syntax.ExternalSpecializeDeclaration ℕ) (ks : List Kind) (z : List ℕ) → body 0 (declarationBranch (externalSpecializer x)) (led ks z) ≡ led (declarationTokens (externalSpecializer x) ks) z
-unfolding declarationBranch declarationTokens body lead loose isLine bare before spelled after close blockEnd ends textFor between separator comma shuts opens sourceOn setting tail Walk.class lastClass led encode encodeAll spell
+unfolding declarationBranch declarationTokens body lead inBrackets isLine tokenless before spelled after close blockEnd ends textFor between separator comma shuts opens sourceOn setting tail Walk.class lastClass led encode encodeAll spell
 specializer-says x ks z = at-kind (x .kind)
   where
     nodes : (v : ℕ) → walks (full 18 (x .start) (x .id) v) 15 (Stored.each namedNodeBranch (x .tokens) []ᴮ) (led (mark "}" ks) z) ≡ led (commas namedNodeTokens (x .tokens) (mark "}" ks)) z
@@ -287,7 +287,7 @@ specializer-says x ks z = at-kind (x .kind)
 -- ------------------------------------------------------------------ precedences and skips
 
 item-says : (x : PrecItem ℕ) (ks : List Kind) (z : List ℕ) → body 0 (precItemBranch x) (led ks z) ≡ led (precItemTokens x ks) z
-unfolding body lead loose isLine bare before spelled after close blockEnd ends textFor led encode encodeAll spell
+unfolding body lead inBrackets isLine tokenless before spelled after close blockEnd ends textFor led encode encodeAll spell
 item-says x ks z = at-kind (x .kind)
   where
     at-kind : (k : Option PrecKind) → body 0 (leaf (full 21 (x .id .start) (x .id .name) (precValue k))) (led ks z) ≡ led (identifier (x .id) (precTokens k ks)) z
@@ -297,18 +297,18 @@ item-says x ks z = at-kind (x .kind)
     at-kind (some cut) = refl
 
 precedences-says : (x : Syntax.PrecDeclaration ℕ) (ks : List Kind) (z : List ℕ) → body 0 (declarationBranch (precedences x)) (led ks z) ≡ led (declarationTokens (precedences x) ks) z
-unfolding declarationBranch declarationTokens body lead loose isLine bare before spelled after close blockEnd ends textFor between separator comma shuts opens sourceOn setting tail Walk.class lastClass led encode encodeAll spell
+unfolding declarationBranch declarationTokens body lead inBrackets isLine tokenless before spelled after close blockEnd ends textFor between separator comma shuts opens sourceOn setting tail Walk.class lastClass led encode encodeAll spell
 precedences-says x ks z =
     let c : Child precItemBranch precItemTokens 20 21 = record { says = item-says; is = λ y. refl; none = refl; alone = refl; other = refl } in
     ap (λ (y : List ℕ). 0x20 ∷ (letters "@precedence {" ++ y)) (children-commas (plain 20 (x .start)) c (led (mark "}" ks) z) z 0 refl refl (x .items) []ᴮ (mark "}" ks) refl refl)
 
 skip-says : (e : Expression ℕ) (ks : List Kind) (z : List ℕ) → body 0 (declarationBranch (mainSkip e)) (led ks z) ≡ led (declarationTokens (mainSkip e) ks) z
-unfolding declarationBranch declarationTokens body lead loose isLine bare before spelled after close blockEnd ends textFor between separator comma shuts opens sourceOn setting tail Walk.class lastClass led encode encodeAll spell
+unfolding declarationBranch declarationTokens body lead inBrackets isLine tokenless before spelled after close blockEnd ends textFor between separator comma shuts opens sourceOn setting tail Walk.class lastClass led encode encodeAll spell
 skip-says e ks z =
     ap (λ (y : List ℕ). 0x20 ∷ (letters "@skip {" ++ y)) (expression-child (plain 22 (Syntax.startOf e)) 0 e []ᴮ (led (mark "}" ks) z) ∙ expression e (mark "}" ks) z)
 
 scoped-says : (x : Syntax.ScopedSkipDeclaration ℕ) (ks : List Kind) (z : List ℕ) → body 0 (declarationBranch (scopedSkip x)) (led ks z) ≡ led (declarationTokens (scopedSkip x) ks) z
-unfolding declarationBranch declarationTokens body lead loose isLine bare before spelled after close blockEnd ends textFor between separator comma shuts opens sourceOn setting tail Walk.class lastClass led encode encodeAll spell
+unfolding declarationBranch declarationTokens body lead inBrackets isLine tokenless before spelled after close blockEnd ends textFor between separator comma shuts opens sourceOn setting tail Walk.class lastClass led encode encodeAll spell
 scoped-says x ks z =
     let p : Row = plain 23 (Syntax.startOf (x .expression)) in
     let rest : List ℕ = led (mark "}" ks) z in

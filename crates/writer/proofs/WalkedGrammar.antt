@@ -14,7 +14,7 @@ use Rattle.tree.specs.Stored.{valued, flag, nameBranch, declarationBranch, exte
 use Rattle.tree.specs.Stored as Stored
 use Rattle.writer.specs.Spelling.{spell, spaced}
 use Rattle.writer.specs.NormalText.{eachAfter, commas, mark, at, identifier, declarationTokens, externalPropTokens, dialectsLines, detectLines, lines, linesText, normalText}
-use Rattle.writer.specs.Walk.{textFor, newLine, between, separator, tail, setting, loose, isLine, bare, lead, ends, before, spelled, after, close, blockEnd, lastClass, branchesText, closing, treeText}
+use Rattle.writer.specs.Walk.{textFor, newLine, between, separator, tail, setting, inBrackets, isLine, tokenless, lead, ends, before, spelled, after, close, blockEnd, lastClass, branchesText, closing, treeText}
 use Rattle.writer.specs.Walk as Walk
 use Rattle.writer.proofs.Bytes.{encode-append}
 use Rattle.writer.proofs.Walked.{classOf, sourceOn, body, walks, walks-on, led, led-spaced}
@@ -42,7 +42,7 @@ inner e = cc
 -- ------------------------------------------------------------------ lines
 
 line : (d : Declaration ℕ) (z : List ℕ) → body 1 (declarationBranch d) z ≡ encodeAll (spaced (declarationTokens d [])) ++ (0x0A ∷ z)
-unfolding declarationBranch declarationTokens body lead loose isLine bare before spelled close blockEnd ends textFor led
+unfolding declarationBranch declarationTokens body lead inBrackets isLine tokenless before spelled close blockEnd ends textFor led
 line (topRule r) z = inner (declaration (topRule r) [] (0x0A ∷ z) ∙ led-spaced _ _ (0x0A ∷ z))
 line (rule r) z = inner (declaration (rule r) [] (0x0A ∷ z) ∙ led-spaced _ _ (0x0A ∷ z))
 line (tokens x) z = inner (declaration (tokens x) [] (0x0A ∷ z) ∙ led-spaced _ _ (0x0A ∷ z))
@@ -79,7 +79,7 @@ lined (mainSkip e) = lined-by refl refl refl
 lined (scopedSkip x) = lined-by refl refl refl
 
 external-line : (x : ExternalPropDeclaration ℕ) (z : List ℕ) → body 1 (externalPropBranch x) z ≡ encodeAll (spaced (externalPropTokens x [])) ++ (0x0A ∷ z)
-unfolding externalPropTokens body lead loose isLine bare before spelled close blockEnd ends textFor led
+unfolding externalPropTokens body lead inBrackets isLine tokenless before spelled close blockEnd ends textFor led
 external-line x z = inner (external-prop-says x [] (0x0A ∷ z) ∙ led-spaced _ _ (0x0A ∷ z))
 
 external-lined : (x : ExternalPropDeclaration ℕ) → Lined (classOf (externalPropBranch x))
@@ -136,13 +136,13 @@ module _ (p : ℕ) (b : Bool) where
 
   more-dialects : (ns : List (Identifier ℕ)) (xs : List (ExternalPropDeclaration ℕ))
       → from p (flag b) 24 (Stored.each (nameBranch 24) ns (externals xs)) ≡ led (eachAfter identifier ns (mark "}" [])) (0x0A ∷ externalText xs)
-  unfolding Stored.each eachAfter from lastClass body between separator newLine sourceOn setting tail lead loose isLine bare before spelled after close blockEnd ends textFor Walk.class led encode encodeAll spell
+  unfolding Stored.each eachAfter from lastClass body between separator newLine sourceOn setting tail lead inBrackets isLine tokenless before spelled after close blockEnd ends textFor Walk.class led encode encodeAll spell
   more-dialects [] xs = after-dialects xs
   more-dialects (n ∷ ns) xs = ap (λ (y : List ℕ). 0x20 ∷ 0x2C ∷ 0x20 ∷ (encodeAll (n .name) ++ y)) (more-dialects ns xs)
 
   from-dialects : (ns : List (Identifier ℕ)) (xs : List (ExternalPropDeclaration ℕ)) (l : ℕ) → eqb l 24 ≡ false
       → from p (flag b) l (Stored.each (nameBranch 24) ns (externals xs)) ≡ textOf (dialectsLines ns) ++ externalText xs
-  unfolding Stored.each linesText encodeAll encode spell from lastClass body between separator newLine sourceOn setting tail lead loose isLine bare before spelled after close blockEnd ends textFor Walk.class led
+  unfolding Stored.each linesText encodeAll encode spell from lastClass body between separator newLine sourceOn setting tail lead inBrackets isLine tokenless before spelled after close blockEnd ends textFor Walk.class led
   from-dialects [] xs l h = from-externals xs l h
   from-dialects (n ∷ ns) xs l h =
       let ks : List Kind = at "dialects" (mark "{" (identifier n (eachAfter identifier ns (mark "}" [])))) in

@@ -2,15 +2,17 @@
 -- Assumes nothing.
 use Prim.Native.Nat.{ℕ, _+_, _/_, _%_, _≤_, _<_, _^_}
 use mathlib.Core.Path.{_≡_}
+use mathlib.Core.Bool.{Bool, _||_}
 use mathlib.Core.List.{List, [], _∷_, _++_}
-use lib.Dec.{leb}
+use lib.Dec.{leb, ltb}
 use lib.ListN.{length, take, drop}
 use Rattle.basics.specs.Basics.{if_then_else_}
 use Rattle.tree.specs.Syntax.{GrammarDeclaration}
 use Rattle.tree.specs.Stored.{grammarWords, grammarTexts}
 use Rattle.tree.specs.Records.{Row, Branches, count, nodesAll}
-use Rattle.tree.specs.Promise.{countOf, wordAt, nodeAt}
-use Rattle.tree.proofs.Back.{All}
+use Rattle.tree.specs.Promise.{countOf, wordAt, nodeAt, All}
+use Rattle.writer.specs.declared.Written.{Written}
+use Rattle.writer.specs.declared.Written.the-variants.{Bytes, TooLong}
 use Rattle.writer.specs.Spelling.{hexDigit}
 use Rattle.writer.specs.NormalText.{normalText}
 
@@ -64,3 +66,15 @@ pub record Stored (ws ts : List ℕ) : Type 0 where
 -- the normal text is written, of whatever grammar it is
 abbrev pub WroteNormal : (ws ts old new : List ℕ) → (n : ℕ) → Type 0
 WroteNormal ws ts old new n = (s : Stored ws ts) → Wrote (normalText (s .grammar)) old new n
+
+-- the text has more bytes than a limit, or than the output
+abbrev pub tooLong : (limit : ℕ) → (text old : List ℕ) → Bool
+tooLong limit t old = ltb limit (length t) || ltb (length old) (length t)
+
+-- the text is laid over the output, or the output is as it was
+pub record WroteWithin (limit : ℕ) (text old new : List ℕ) (r : Written) : Type 0 where
+  pub answer : r ≡ (if tooLong limit text old then TooLong else Bytes (length text))
+  pub output : new ≡ (if tooLong limit text old then old else text ++ drop (length text) old)
+
+abbrev pub WroteNormalWithin : (ws ts : List ℕ) → (limit : ℕ) → (old new : List ℕ) → Written → Type 0
+WroteNormalWithin ws ts limit old new r = (s : Stored ws ts) → WroteWithin limit (normalText (s .grammar)) old new r

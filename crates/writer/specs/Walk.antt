@@ -87,8 +87,8 @@ between p l c =
 unfoldable pub source : (name : List ℕ) → (child : ℕ) → List ℕ
 source t c = if eqb c 15 then (letters " " ++ t) ++ letters " from" else []
 
-unfoldable pub glue : (parent : Row) → (left child : ℕ) → List ℕ
-glue p l c = between (p .kind) l c ++ source (p .text) c
+unfoldable pub link : (parent : Row) → (left child : ℕ) → List ℕ
+link p l c = between (p .kind) l c ++ source (p .text) c
 
 -- after a child, whatever follows
 abbrev pub expressionTails : List Entry
@@ -110,22 +110,22 @@ unfoldable pub setting : ℕ → ℕ
 setting p = if eqb p 1 then 1 else if eqb p 33 then 33 else if among (34 ∷ 35 ∷ []) p then 34 else 0
 
 -- it stands in round brackets
-unfoldable pub loose : (setting kind value : ℕ) → Bool
-loose s k v = (eqb k 33 && among (33 ∷ 34 ∷ []) s) || (eqb k 34 && eqb v 0 && eqb s 34)
+unfoldable pub inBrackets : (setting kind value : ℕ) → Bool
+inBrackets s k v = (eqb k 33 && among (33 ∷ 34 ∷ []) s) || (eqb k 34 && eqb v 0 && eqb s 34)
 
 -- it is a line of its own
 unfoldable pub isLine : (setting kind : ℕ) → Bool
 isLine s k = eqb s 1 && not (eqb k 24)
 
 -- it begins with no token of its own
-unfoldable pub bare : (kind value : ℕ) → Bool
-bare k v = among (33 ∷ 35 ∷ 38 ∷ []) k || (eqb k 34 && eqb v 0)
+unfoldable pub tokenless : (kind value : ℕ) → Bool
+tokenless k v = among (33 ∷ 35 ∷ 38 ∷ []) k || (eqb k 34 && eqb v 0)
 
 unfoldable pub lead : (setting kind value : ℕ) → List ℕ
-lead s k v = if loose s k v then letters " (" else if bare k v || isLine s k then [] else letters " "
+lead s k v = if inBrackets s k v then letters " (" else if tokenless k v || isLine s k then [] else letters " "
 
 unfoldable pub ends : (setting kind value : ℕ) → List ℕ
-ends s k v = if loose s k v then letters " )" else if isLine s k then letters "\n" else []
+ends s k v = if inBrackets s k v then letters " )" else if isLine s k then letters "\n" else []
 
 -- ------------------------------------------------------------------ one record
 
@@ -215,7 +215,7 @@ unfoldable pub lastAt : (words : List ℕ) → ℕ → ℕ
 lastAt ws i = if eqb (wordAt ws i 6) 0 then 0 else class (kindBefore ws i)
 
 unfoldable pub front : (parent : Row) → (left : ℕ) → Row → List ℕ
-front p l r = (glue p l (class (r .kind)) ++ lead (setting (p .kind)) (r .kind) (r .value)) ++ own r
+front p l r = (link p l (class (r .kind)) ++ lead (setting (p .kind)) (r .kind) (r .value)) ++ own r
 
 unfoldable pub back : (parent : ℕ) → Row → (last : ℕ) → List ℕ
 back p r l = (close (r .kind) (r .value) l ++ ends (setting p) (r .kind) (r .value)) ++ tail p (class (r .kind))

@@ -1,8 +1,11 @@
-// The normal text of a stored tree. Each function adds a part of it to the output behind the n bytes that stand there, and answers how many
-// bytes there are then. It counts where the output is too short as well, so that the caller learns what length would do.
+// The normal text of a stored tree.
 //
-// The functions for a token write the token alone. Tokens have one space between them: whoever writes the tokens of a line puts a space
-// behind each, and the end of the line takes the place of the last one, which has the same length.
+// Each writer of a record, of what stands in it or between its children, is lent the unwritten rest of the output. It writes at the front of
+// that, and answers how many bytes it has written. It counts where the rest is too short as well, so that the caller learns what
+// length would do. The writers of bytes below them are lent the whole of their part and add to it behind the n bytes that stand there.
+//
+// One walk serves all kinds of records: what stands before, between and after them is looked up by their kinds (specs/Walk.antt). Every
+// token has its space in front, but the first of a line.
 ghost use mathlib.Core.Path.{_≡_};
 ghost use mathlib.Core.Bool.{_||_};
 ghost use mathlib.Core.List.{[], _∷_};
@@ -13,14 +16,20 @@ ghost use Rattle.characters.specs.Spans.{_upto_};
 ghost use Rattle.lexer.specs.Tokens.{Kind};
 ghost use Rattle.writer.specs.Spelling.{quoted, hexDigit, hexFrom, codeText, spanText, spell};
 ghost use Rattle.tree.specs.Promise.{countOf, wordAt};
-ghost use Rattle.writer.specs.Promise.{Adds, Wrote, digitAt, Lent, rowAt, Run, Stored, WroteNormal};
-ghost use Rattle.writer.specs.Walk.{textFor, expressionCommas, listCommas, expressionOpens, nodeOpens, listOpens, listShuts, expressionTails, sourceTails, nameTails, propWords, externalWords, specializeWords, sequenceWords, setWords, classWords, kindWords, precWords, partEnds, repeatWords, listEnds, kindEnds, dialectEnds, detectWords, class as classD, comma, opens, shuts, newLine, separator, between, source, glue, tail, setting as settingD, loose, isLine, bare, lead, ends, before, spelled, after, own, blockEnd, close, lastAt, front, back, WroteOne, WroteRun, closing};
+ghost use Rattle.writer.specs.Promise.{Adds, Wrote, digitAt, Lent, rowAt, Run, Stored, WroteNormal, WroteNormalWithin};
+ghost use Rattle.writer.specs.Walk.{textFor, expressionCommas, listCommas, expressionOpens, nodeOpens, listOpens, listShuts, expressionTails, sourceTails, nameTails, propWords, externalWords, specializeWords, sequenceWords, setWords, classWords, kindWords, precWords, partEnds, repeatWords, listEnds, kindEnds, dialectEnds, detectWords, class as classD, comma, opens, shuts, newLine, separator, between, source, link, tail, setting as settingD, inBrackets, isLine, tokenless, lead, ends, before, spelled, after, own, blockEnd, close, lastAt, front, back, WroteOne, WroteRun, closing};
 use tree::count;
 use tree::first;
 use tree::is_expression;
 use tree::kind_before;
 use tree::text;
 use tree::word;
+
+// How many bytes were written, or that the text is longer than it may be.
+pub enum Written {
+    Bytes(usize),
+    TooLong,
+}
 
 // The words of a record that are looked at.
 const KIND: usize = 0;
@@ -221,8 +230,8 @@ fn setting(parent: u32) -> u32
 }
 
 // A record stands in round brackets.
-fn is_loose(setting: u32, kind: u32, value: u32) -> bool
-    ensures { λ r. ⌜ r ≡ loose setting kind value ⌝ }
+fn is_bracketed(setting: u32, kind: u32, value: u32) -> bool
+    ensures { λ r. ⌜ r ≡ inBrackets setting kind value ⌝ }
 {
     if kind == 33 {
         if setting == 33 {
@@ -256,8 +265,8 @@ fn is_line(setting: u32, kind: u32) -> bool
 }
 
 // A record begins with no token of its own.
-fn is_bare(kind: u32, value: u32) -> bool
-    ensures { λ r. ⌜ r ≡ bare kind value ⌝ }
+fn is_tokenless(kind: u32, value: u32) -> bool
+    ensures { λ r. ⌜ r ≡ tokenless kind value ⌝ }
 {
     match kind {
         33 => true,
@@ -636,10 +645,10 @@ fn put_tail(parent: u32, child: u32, out: &mut [u8]) -> usize
 fn put_lead(setting: u32, kind: u32, value: u32, out: &mut [u8]) -> usize
     ensures { λ r. ⌜ Wrote (lead setting kind value) (now (out .entry)) (now (out .exit)) r ⌝ }
 {
-    if is_loose(setting, kind, value) {
+    if is_bracketed(setting, kind, value) {
         return put(b" (", out);
     }
-    if is_bare(kind, value) {
+    if is_tokenless(kind, value) {
         return 0;
     }
     if is_line(setting, kind) {
@@ -652,7 +661,7 @@ fn put_lead(setting: u32, kind: u32, value: u32, out: &mut [u8]) -> usize
 fn put_ends(setting: u32, kind: u32, value: u32, out: &mut [u8]) -> usize
     ensures { λ r. ⌜ Wrote (ends setting kind value) (now (out .entry)) (now (out .exit)) r ⌝ }
 {
-    if is_loose(setting, kind, value) {
+    if is_bracketed(setting, kind, value) {
         return put(b" )", out);
     }
     if is_line(setting, kind) {
@@ -783,7 +792,7 @@ fn put_source(records: &[u32], texts: &[u8], parent: usize, child: u32, out: &mu
 }
 
 // What stands between two children of a record.
-fn put_glue(
+fn put_link(
     records: &[u32],
     texts: &[u8],
     parent: usize,
@@ -792,7 +801,7 @@ fn put_glue(
     out: &mut [u8],
 ) -> usize
     requires { ⌜ Lent (now records) (now texts) × (parent < countOf (now records)) ⌝ }
-    ensures { λ r. ⌜ Wrote (glue (rowAt (now (records .entry)) (now (texts .entry)) parent) left child) (now (out .entry)) (now (out .exit)) r ⌝ }
+    ensures { λ r. ⌜ Wrote (link (rowAt (now (records .entry)) (now (texts .entry)) parent) left child) (now (out .entry)) (now (out .exit)) r ⌝ }
 {
     let n = put_between(word(records, parent, KIND), left, child, out);
     let a = upto(n, out.len());
@@ -812,7 +821,7 @@ fn put_front(
     ensures { λ r. ⌜ Wrote (front (rowAt (now (records .entry)) (now (texts .entry)) parent) left (rowAt (now (records .entry)) (now (texts .entry)) i)) (now (out .entry)) (now (out .exit)) r ⌝ }
 {
     let kind = word(records, i, KIND);
-    let mut n = put_glue(records, texts, parent, left, class(kind), out);
+    let mut n = put_link(records, texts, parent, left, class(kind), out);
     let a = upto(n, out.len());
     n += put_lead(
         setting(word(records, parent, KIND)),
@@ -930,4 +939,19 @@ pub fn normal_text(records: &[u32], texts: &[u8], out: &mut [u8]) -> usize
             last_class(records, root),
             &mut out[a..],
         )
+}
+
+// The normal text, where it has at most `limit` bytes and fits the output. It is measured first, so that the output is otherwise as it was.
+pub fn write_normal_text(records: &[u32], texts: &[u8], limit: usize, out: &mut [u8]) -> Written
+    requires { ⌜ Stored (now records) (now texts) ⌝ }
+    ensures { λ r. ⌜ WroteNormalWithin (now (records .entry)) (now (texts .entry)) limit (now (out .entry)) (now (out .exit)) r ⌝ }
+{
+    let n = normal_text(records, texts, &mut out[..0]);
+    if limit < n {
+        return Written::TooLong;
+    }
+    if out.len() < n {
+        return Written::TooLong;
+    }
+    Written::Bytes(normal_text(records, texts, out))
 }

@@ -2,7 +2,7 @@
 use native.Mathlib.Omega.{arith}
 use Rattle.writer.specs.Walk.{front}
 use Rattle.writer.proofs.Writes.{then}
-use Rattle.writer.proofs.Small.{bounded, row-small, glue-small, lead-small, own-small}
+use Rattle.writer.proofs.Small.{bounded, row-small, link-small, lead-small, own-small}
 use borrow.Author.Needs.{needs}
 use Rattle.writer.proofs.put_front.Statement.{statement}
 use Rattle.writer.proofs.put_front.Tie as tie
@@ -23,12 +23,12 @@ put-front-spec =
     (λ c. search needs)
     (λ c. search needs)
     (λ c κs. search needs)
-    (λ c. omega (arith, bounded (c .before .before .before .before .before .before .before .before .before .before .put-glue .ensures) (glue-small _ _ _), row-small (c .before .before .before .before .before .before .before .before .before .before .before .before .before .before .before .before .before .pre .0) (c .before .before .before .before .before .before .before .before .before .before .before .before .before .before .before .before .before .args .parent), bounded (c .before .before .put-lead .ensures) (lead-small _ _ _)))
+    (λ c. omega (arith, bounded (c .before .before .before .before .before .before .before .before .before .before .put-link .ensures) (link-small _ _ _), row-small (c .before .before .before .before .before .before .before .before .before .before .before .before .before .before .before .before .before .pre .0) (c .before .before .before .before .before .before .before .before .before .before .before .before .before .before .before .before .before .args .parent), bounded (c .before .before .put-lead .ensures) (lead-small _ _ _)))
     (λ c κs. search needs)
     (λ c. search needs)
     (λ c. search needs)
     (λ c. search needs)
     (λ c κs. (c .before .before .before .before .before .before .before .before .before .before .before .before .before .before .before .before .before .before .before .pre .0, c .before .before .before .before .before .before .before .before .before .before .before .before .before .before .before .before .before .before .before .pre .2))
-    (λ c. omega (arith, bounded (c .before .before .before .before .before .before .before .before .before .before .before .before .before .before .before .put-glue .ensures) (glue-small _ _ _), row-small (c .before .before .before .before .before .before .before .before .before .before .before .before .before .before .before .before .before .before .before .before .before .before .pre .0) (c .before .before .before .before .before .before .before .before .before .before .before .before .before .before .before .before .before .before .before .before .before .before .args .parent), bounded (c .before .before .before .before .before .before .before .put-lead .ensures) (lead-small _ _ _), bounded (c .before .before .put-own .ensures) (own-small _), row-small (c .before .before .before .before .before .before .before .before .before .before .before .before .before .before .before .before .before .before .before .before .before .before .pre .0) (c .before .before .before .before .before .before .before .before .before .before .before .before .before .before .before .before .before .before .before .before .before .before .args .i)))
+    (λ c. omega (arith, bounded (c .before .before .before .before .before .before .before .before .before .before .before .before .before .before .before .put-link .ensures) (link-small _ _ _), row-small (c .before .before .before .before .before .before .before .before .before .before .before .before .before .before .before .before .before .before .before .before .before .before .pre .0) (c .before .before .before .before .before .before .before .before .before .before .before .before .before .before .before .before .before .before .before .before .before .before .args .parent), bounded (c .before .before .before .before .before .before .before .put-lead .ensures) (lead-small _ _ _), bounded (c .before .before .put-own .ensures) (own-small _), row-small (c .before .before .before .before .before .before .before .before .before .before .before .before .before .before .before .before .before .before .before .before .before .before .pre .0) (c .before .before .before .before .before .before .before .before .before .before .before .before .before .before .before .before .before .before .before .before .before .before .args .i)))
     (λ c. search needs)
-    (λ c. then (then (rw (c .before .before .before .before .before .before .before .before .before .before .before .before .before .before .before .before .before .class .ensures, c .before .before .before .before .before .before .before .before .before .before .before .before .before .before .before .before .before .before .word .ensures) at (c .before .before .before .before .before .before .before .before .before .before .before .before .before .before .before .put-glue .ensures)) (c .before .before .before .before .before .before .before .before .before .before .before .before .upto .ensures) (rw (c .before .before .before .before .before .before .before .before .before .before .setting .ensures, c .before .before .before .before .before .before .before .before .before .before .before .word2 .ensures, c .before .before .before .before .before .before .before .before .before .before .before .before .before .before .before .before .before .before .word .ensures, c .before .before .before .before .before .before .before .before .before .word3 .ensures) at (c .before .before .before .before .before .before .before .put-lead .ensures))) (c .before .before .before .before .upto2 .ensures) (c .before .before .put-own .ensures)))
+    (λ c. then (then (rw (c .before .before .before .before .before .before .before .before .before .before .before .before .before .before .before .before .before .class .ensures, c .before .before .before .before .before .before .before .before .before .before .before .before .before .before .before .before .before .before .word .ensures) at (c .before .before .before .before .before .before .before .before .before .before .before .before .before .before .before .put-link .ensures)) (c .before .before .before .before .before .before .before .before .before .before .before .before .upto .ensures) (rw (c .before .before .before .before .before .before .before .before .before .before .setting .ensures, c .before .before .before .before .before .before .before .before .before .before .before .word2 .ensures, c .before .before .before .before .before .before .before .before .before .before .before .before .before .before .before .before .before .before .word .ensures, c .before .before .before .before .before .before .before .before .before .word3 .ensures) at (c .before .before .before .before .before .before .before .put-lead .ensures))) (c .before .before .before .before .upto2 .ensures) (c .before .before .put-own .ensures)))

@@ -1,12 +1,12 @@
--- `writer::is_bare` meets its contract. Assumes nothing.
+-- `writer::is_tokenless` meets its contract. Assumes nothing.
 use borrow.Author.Tests.{ne-eqb}
-use Rattle.writer.specs.Walk.{bare}
-use Rattle.writer.proofs.is_bare.Statement.{statement}
-use Rattle.writer.proofs.is_bare.Tie as tie
+use Rattle.writer.specs.Walk.{tokenless}
+use Rattle.writer.proofs.is_tokenless.Statement.{statement}
+use Rattle.writer.proofs.is_tokenless.Tie as tie
 
-pub is-bare-spec : {M : Type 1} → statement M
-unfolding bare
-is-bare-spec =
+pub is-tokenless-spec : {M : Type 1} → statement M
+unfolding tokenless
+is-tokenless-spec =
     tie.close
     (tie.spec
     (λ c. rw (c .match .keys1))

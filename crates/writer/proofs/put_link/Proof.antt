@@ -1,15 +1,15 @@
--- `writer::put_glue` meets its contract. Assumes nothing.
+-- `writer::put_link` meets its contract. Assumes nothing.
 use native.Mathlib.Omega.{arith}
-use Rattle.writer.specs.Walk.{glue}
+use Rattle.writer.specs.Walk.{link}
 use Rattle.writer.proofs.Writes.{then}
 use Rattle.writer.proofs.Small.{bounded, row-small, between-small, source-small}
 use borrow.Author.Needs.{needs}
-use Rattle.writer.proofs.put_glue.Statement.{statement}
-use Rattle.writer.proofs.put_glue.Tie as tie
+use Rattle.writer.proofs.put_link.Statement.{statement}
+use Rattle.writer.proofs.put_link.Tie as tie
 
-pub put-glue-spec : {M : Type 1} → statement M
-unfolding glue
-put-glue-spec =
+pub put-link-spec : {M : Type 1} → statement M
+unfolding link
+put-link-spec =
     tie.close
     (tie.spec
     (λ c κs. search needs)

@@ -1,12 +1,12 @@
--- `writer::is_loose` meets its contract. Assumes nothing.
+-- `writer::is_bracketed` meets its contract. Assumes nothing.
 use borrow.Author.Tests.{ne-eqb}
-use Rattle.writer.specs.Walk.{loose}
-use Rattle.writer.proofs.is_loose.Statement.{statement}
-use Rattle.writer.proofs.is_loose.Tie as tie
+use Rattle.writer.specs.Walk.{inBrackets}
+use Rattle.writer.proofs.is_bracketed.Statement.{statement}
+use Rattle.writer.proofs.is_bracketed.Tie as tie
 
-pub is-loose-spec : {M : Type 1} → statement M
-unfolding loose
-is-loose-spec =
+pub is-bracketed-spec : {M : Type 1} → statement M
+unfolding inBrackets
+is-bracketed-spec =
     tie.close
     (tie.spec
     (λ c. rw (c .before .if1 .taken, c .if2 .taken))
