@@ -7,7 +7,7 @@ use mathlib.Core.List.{List, [], _∷_, _++_, map, append-assoc, append-nil}
 use lib.ListN.{length, take, drop, length-append, length-take, length-drop}
 use Rattle.tree.specs.Records.{Row, Branch, branch, Branches, []ᴮ, _∷ᴮ_, count, Node, nodes, nodesAll}
 use Rattle.tree.specs.OneTree.{kindOf, inOrder, rowOf}
-use Rattle.tree.specs.Promise.{wordAt, recordAt, nodeAt, firstOf, kindBefore, kindsBack}
+use Rattle.tree.specs.Promise.{wordAt, recordAt, nodeAt, At, All, firstOf, kindBefore, kindsBack}
 
 -- ------------------------------------------------------------------ one record back
 
@@ -53,16 +53,6 @@ first-low ws (suc end) (suc n) = omega (arith, first-low ws end (n + wordAt ws e
 
 -- ------------------------------------------------------------------ records that are nodes
 
--- the record i with its text is the node x
-pub record At (ws ts : List ℕ) (i : ℕ) (x : Node) : Type 0 where
-  pub is : nodeAt ws ts i ≡ x
-  pub inside : wordAt ws i 2 + wordAt ws i 3 ≤ length ts
-
--- the records from `lo` on are the nodes
-unfoldable pub All : (ws ts : List ℕ) → ℕ → List Node → Type 0
-All ws ts lo [] = Unit
-All ws ts lo (x ∷ xs) = At ws ts lo x × All ws ts (suc lo) xs
-
 module _ (ws ts : List ℕ) where
   shift : (lo n : ℕ) → suc lo + n ≡ lo + suc n
   shift lo n = omega arith
@@ -87,11 +77,11 @@ module _ (ws ts : List ℕ) where
   all-right lo (x ∷ xs) ys (a, b) = rw (shift lo (length xs)) at (all-right (suc lo) xs ys b)
 
   -- the last record of a branch is its own
-  root-at : (lo : ℕ) (r : Row) (bs : Branches) → All ws ts lo (nodes (branch r bs)) → At ws ts (lo + length (nodesAll bs)) (record { row = r; children = count bs })
+  pub root-at : (lo : ℕ) (r : Row) (bs : Branches) → All ws ts lo (nodes (branch r bs)) → At ws ts (lo + length (nodesAll bs)) (record { row = r; children = count bs })
   unfolding nodes All
   root-at lo r bs a = all-right lo (nodesAll bs) (record { row = r; children = count bs } ∷ []) a .0
 
-  past-root : (lo : ℕ) (r : Row) (bs : Branches) → lo + length (nodes (branch r bs)) ≡ suc (lo + length (nodesAll bs))
+  pub past-root : (lo : ℕ) (r : Row) (bs : Branches) → lo + length (nodes (branch r bs)) ≡ suc (lo + length (nodesAll bs))
   unfolding nodes
   past-root lo r bs = omega (arith, length-append (nodesAll bs) (record { row = r; children = count bs } ∷ []))
 
@@ -113,7 +103,7 @@ module _ (ws ts : List ℕ) where
         rw (e, f) (first-branches bs (lo + length (nodes b)) (suc n) (all-right lo (nodes b) (nodesAll bs) a)
         ∙ first-branch b lo n (all-left lo (nodes b) (nodesAll bs) a))
 
-  kind-last : (b : Branch) (lo : ℕ) → All ws ts lo (nodes b) → kindBefore ws (lo + length (nodes b)) ≡ kindOf b
+  pub kind-last : (b : Branch) (lo : ℕ) → All ws ts lo (nodes b) → kindBefore ws (lo + length (nodes b)) ≡ kindOf b
   unfolding kindBefore
   kind-last (branch r bs) lo a = rw (past-root lo r bs) (ap (λ (x : Node). x .row .kind) (root-at lo r bs a .is))
 
@@ -122,7 +112,7 @@ unfoldable pub before : Branches → Branches → Branches
 before []ᴮ cs = cs
 before (b ∷ᴮ bs) cs = b ∷ᴮ before bs cs
 
-nodes-before : (bs cs : Branches) → nodesAll (before bs cs) ≡ nodesAll bs ++ nodesAll cs
+pub nodes-before : (bs cs : Branches) → nodesAll (before bs cs) ≡ nodesAll bs ++ nodesAll cs
 unfolding before nodes
 nodes-before []ᴮ cs = refl
 nodes-before (b ∷ᴮ bs) cs = rw (nodes-before bs cs) (sym (append-assoc (nodes b) (nodesAll bs) (nodesAll cs)))

@@ -86,7 +86,7 @@ module _ (ts : List ℕ) where
     pub low : at ≤ length ts
     pub is : drop at ts ≡ t ++ u
 
-  lies-length : (at : ℕ) (t u : List ℕ) → Lies at t u → at + length t ≤ length ts
+  pub lies-length : (at : ℕ) (t u : List ℕ) → Lies at t u → at + length t ≤ length ts
   lies-length at t u l =
       let e = ap length (l .is) in
       let f = length-append t u in
@@ -94,14 +94,14 @@ module _ (ts : List ℕ) where
       let h = l .low in
       omega arith
 
-  lies-after : (at : ℕ) (t u v : List ℕ) → Lies at t (u ++ v) → Lies (at + length t) u v
+  pub lies-after : (at : ℕ) (t u v : List ℕ) → Lies at t (u ++ v) → Lies (at + length t) u v
   lies-after at t u v l =
       record { low = lies-length at t (u ++ v) l; is = sym (drop-drop (length t) at ts) ∙ ap (drop (length t)) (l .is) ∙ drop-append-seam t (u ++ v) }
 
-  lies-part : (at : ℕ) (t u v : List ℕ) → Lies at (t ++ u) v → Lies at t (u ++ v)
+  pub lies-part : (at : ℕ) (t u v : List ℕ) → Lies at (t ++ u) v → Lies at t (u ++ v)
   lies-part at t u v l = record { low = l .low; is = l .is ∙ append-assoc t u v }
 
-  cut-text : (at : ℕ) (t u : List ℕ) → Lies at t u → cut ts (placeOf at (length t)) (placeOf at (length t) + length t) ≡ t
+  pub cut-text : (at : ℕ) (t u : List ℕ) → Lies at t u → cut ts (placeOf at (length t)) (placeOf at (length t) + length t) ≡ t
   cut-text at [] u l = refl
   cut-text at (c ∷ t) u l =
       let e : at + length (c ∷ t) - at ≡ length (c ∷ t) = omega arith in

@@ -14,10 +14,9 @@ use Rattle.basics.proofs.Tests.{cases}
 use Rattle.tree.specs.Records.{Row, Branch, branch, Branches, []ᴮ, _∷ᴮ_, count, Node, nodes, nodesAll, width}
 use Rattle.tree.specs.OneTree.{kindOf, isExpression, rooted, build}
 use Rattle.tree.specs.Equality.{sameRow, sameBranch, sameBranches, structurallyEq}
-use Rattle.tree.specs.Promise.{countOf, wordAt, nodeAt, Inside, isSome, sameNode, comparisonOf, comparison}
+use Rattle.tree.specs.Promise.{countOf, wordAt, nodeAt, Inside, isSome, sameNode, comparisonOf, comparison, At, All}
 use Rattle.tree.specs.declared.Comparison.{Comparison}
 use Rattle.tree.specs.declared.Comparison.the-variants as Comparison
-use Rattle.tree.proofs.Back.{At, All}
 use Rattle.tree.proofs.Trees.{Grown, grown-first, grownOf, build-whole, build-broken, standing}
 
 -- ------------------------------------------------------------------ node by node

@@ -6,6 +6,7 @@ pub mod Equal
 pub mod Stores
 pub mod Encoded
 pub mod Decoded
+pub mod Standing
 pub mod Known
 pub mod Upto
 pub mod ExpressionsFit

@@ -13,8 +13,8 @@ use Rattle.basics.specs.Basics.{if_then_else_}
 use Rattle.basics.proofs.Tests.{cases, both-true}
 use Rattle.tree.specs.Records.{Row, Branch, branch, Branches, []ᴮ, _∷ᴮ_, Node, nodes, nodesAll, Record, width}
 use Rattle.tree.specs.OneTree.{kindOf, rowOf, hasText, isKind, valuesFit, childrenFit, textFits, recordFits, only, buildFrom, recordsIn, buildBy, rooted, build}
-use Rattle.tree.specs.Promise.{wordAt, recordAt, nodeAt, kindBefore, kindsBack, isSome}
-use Rattle.tree.proofs.Back.{At, All, all-append, all-one, flat, over, flat-over, length-over, kinds-back, kind-top, kind-some, nodes-some}
+use Rattle.tree.specs.Promise.{wordAt, recordAt, nodeAt, kindBefore, kindsBack, isSome, At, All}
+use Rattle.tree.proofs.Back.{all-append, all-one, flat, over, flat-over, length-over, kinds-back, kind-top, kind-some, nodes-some}
 
 -- ------------------------------------------------------------------ records in words
 

@@ -1,6 +1,7 @@
 -- What the values of the code stand for, and what its functions promise of the words they are lent.
 -- Assumes nothing.
 use Prim.Native.Nat.{ℕ, zero, suc, _+_, _-_, _*_, _/_, _≤_, _<_}
+use mathlib.Core.Path.{_≡_}
 use mathlib.Core.Bool.{Bool, true, false, _&&_}
 use mathlib.Core.List.{List, [], _∷_, _++_}
 use mathlib.Core.Option.{Option, none, some}
@@ -99,6 +100,16 @@ nodeAt ws ts i = record { row = rowOf ts (recordAt ws i); children = wordAt ws i
 pub record Inside (ws ts : List ℕ) (i : ℕ) : Type 0 where
   pub there : i < countOf ws
   pub text : wordAt ws i 2 + wordAt ws i 3 ≤ length ts
+
+-- the record i with its text is the node x
+pub record At (ws ts : List ℕ) (i : ℕ) (x : Node) : Type 0 where
+  pub is : nodeAt ws ts i ≡ x
+  pub inside : wordAt ws i 2 + wordAt ws i 3 ≤ length ts
+
+-- the records from `lo` on are the nodes
+unfoldable pub All : (ws ts : List ℕ) → ℕ → List Node → Type 0
+All ws ts lo [] = Unit
+All ws ts lo (x ∷ xs) = At ws ts lo x × All ws ts (suc lo) xs
 
 -- where the last n branches begin that end before a record, counting back: each record takes its children with it. 0 where there are
 -- not so many

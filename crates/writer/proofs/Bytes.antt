@@ -42,7 +42,7 @@ quoted-small (c ∷ t) =
 
 -- ------------------------------------------------------------------ bytes and characters
 
-encode-append : (a b : List ℕ) → encodeAll (a ++ b) ≡ encodeAll a ++ encodeAll b
+pub encode-append : (a b : List ℕ) → encodeAll (a ++ b) ≡ encodeAll a ++ encodeAll b
 unfolding encodeAll
 encode-append [] b = refl
 encode-append (c ∷ a) b = rw (encode-append a b) (sym (append-assoc (encode c) (encodeAll a) (encodeAll b)))

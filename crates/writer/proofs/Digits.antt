@@ -2,13 +2,17 @@
 -- Assumes nothing.
 use mathlib.Core.Path.{_≡_, refl, sym, _∙_, ap}
 use mathlib.Core.List.{List, [], _∷_, _++_, append-assoc}
-use Prim.Native.Nat.{ℕ, zero, suc, _+_, _*_, _/_, _%_, _≤_, _<_}
+use Prim.Native.Nat.{ℕ, zero, suc, _+_, _-_, _*_, _/_, _%_, _≤_, _<_}
 use native.Mathlib.Omega.{arith}
 use native.Mathlib.Decide.{decLt, decLe}
 use native.Mathlib.Nat.{div-div-eq-div-mul}
-use lib.ListN.{length}
+use lib.Dec.{eqb}
+use lib.ListN.{length, length-append}
 use borrow.Author.Tests.{le-leb, lt-leb}
-use Rattle.writer.specs.Spelling.{hexDigit, hexFrom, codeText}
+use Rattle.writer.specs.Spelling.{hexDigit, hexFrom, codeText, spanText}
+use Rattle.basics.specs.Basics.{letters}
+use Rattle.basics.proofs.Tests.{cases}
+use Rattle.characters.specs.Spans.{Span}
 use Rattle.writer.specs.Promise.{digitAt}
 use Rattle.writer.proofs.Back.{hex-low, hex-high, hex-append}
 
@@ -85,6 +89,15 @@ hex-small (suc k) n rest =
 pub code-small : (c : ℕ) → length (codeText c) ≤ 10
 unfolding codeText
 code-small c = omega (arith, hex-small 6 c (0x7D ∷ []))
+
+pub span-small : (s : Span) → length (spanText s) ≤ 21
+unfolding spanText
+span-small s =
+    let a : List ℕ = codeText (s .first) in
+    let b : List ℕ = codeText (s .past - 1) in
+    cases (eqb (s .first + 1) (s .past))
+    (λ e. rw e (omega (arith, code-small (s .first))))
+    (λ e. rw (e, length-append (a ++ letters "-") b, length-append a (letters "-")) (omega (arith, code-small (s .first), code-small (s .past - 1))))
 
 -- the parts of `\u{HEX}`
 pub code-parts : (c : ℕ) → ((((0x5C ∷ []) ++ (0x75 ∷ [])) ++ (0x7B ∷ [])) ++ hexFrom 6 c []) ++ (0x7D ∷ []) ≡ codeText c

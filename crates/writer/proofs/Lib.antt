@@ -2,4 +2,10 @@ pub mod Back
 pub mod Writes
 pub mod Digits
 pub mod Bytes
-pub mod Spaces
+pub mod Small
+pub mod Walked
+pub mod WalkedExpressions
+pub mod WalkedDeclarations
+pub mod WalkedGrammar
+pub mod Runs
+pub mod Grammars

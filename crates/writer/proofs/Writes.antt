@@ -1,13 +1,18 @@
 -- Laws of what was added to an output: a byte, nothing, and one text after another.
 -- Assumes nothing.
 use mathlib.Core.Path.{_≡_, refl, sym, _∙_, ap}
-use mathlib.Core.List.{List, [], _∷_, _++_, append-assoc}
-use Prim.Native.Nat.{ℕ, _+_, _≤_, _<_}
+use mathlib.Core.Bool.{true, false, or-true}
+use mathlib.Core.List.{List, [], _∷_, _++_, append-assoc, append-nil}
+use Prim.Native.Nat.{ℕ, _+_, _-_, _≤_, _<_}
 use native.Mathlib.Omega.{arith}
 use native.Mathlib.Numerals.{add-one}
-use lib.ListN.{length, take, drop, set, getD, length-append, length-set, length-drop, take-append-drop}
-use lib.Seq.{length-take-le, set-split, take-at, drop-at, drop-drop, take-suc, getD-drop}
-use Rattle.writer.specs.Promise.{Adds, Wrote}
+use lib.ListN.{length, take, drop, set, getD, length-append, length-set, length-drop, take-append-drop, drop-of-length-le}
+use lib.Seq.{length-take-le, set-split, take-all, take-at, drop-at, drop-drop, take-suc, getD-drop}
+use borrow.Rule.Slice.PartMut.{putMid, same-len-mid}
+use lib.Dec.{ltb}
+use borrow.Author.Tests.{lt-ltb, le-ltb}
+use Rattle.writer.specs.declared.Written.the-variants.{Bytes, TooLong}
+use Rattle.writer.specs.Promise.{Adds, Wrote, tooLong, WroteWithin}
 
 pub adds-none : (old : List ℕ) (n : ℕ) → Adds [] old n old n
 adds-none old n = record { counts = omega arith; same = refl; holds = λ _. sym (take-append-drop n old) }
@@ -41,9 +46,6 @@ module _ {s t old mid new : List ℕ} {n m k : ℕ} where
 pub adds-first : {text old new : List ℕ} {n : ℕ} → Adds text old 0 new n → Wrote text old new n
 adds-first f = record { counts = omega (arith, f .counts); same = f .same; holds = f .holds }
 
-pub first-adds : {text old new : List ℕ} {n : ℕ} → Wrote text old new n → Adds text old 0 new n
-first-adds f = record { counts = omega (arith, f .counts); same = f .same; holds = f .holds }
-
 -- one more byte of a stored text
 pub take-next : (i place : ℕ) (texts : List ℕ) → place + i < length texts
     → take (i + 1) (drop place texts) ≡ take i (drop place texts) ++ (getD texts (place + i) 0 ∷ [])
@@ -51,23 +53,61 @@ take-next i place texts h =
     let l : i < length (drop place texts) = simp length-drop (omega arith) in
     rw add-one (take-suc (drop place texts) i 0 l ∙ rw getD-drop)
 
--- a byte in the place of the last one
-pub adds-over : (t : List ℕ) (a b : ℕ) {old mid new : List ℕ} {n m : ℕ} → Adds (t ++ (a ∷ [])) old n mid (m + 1) → Adds (b ∷ []) mid m new (m + 1)
-    → Adds (t ++ (b ∷ [])) old n new (m + 1)
-adds-over t a b {old} {mid} {new} {n} {m} f g =
-    let c = f .counts in
-    let p = length-append t (a ∷ []) in
-    let q = length-append t (b ∷ []) in
-    record {
-      counts = omega arith;
-      same = g .same ∙ f .same;
-      holds = λ h.
-          let l : length (take n old) ≡ n = length-take-le n old (omega arith) in
-          let r = drop (m + 1) old in
-          let e : mid ≡ (take n old ++ t) ++ (a ∷ r) = f .holds h ∙ simp append-assoc in
-          let z : length (take n old ++ t) ≡ m = length-append (take n old) t ∙ omega arith in
-          let y : length ((take n old ++ t) ++ (a ∷ [])) ≡ m + 1 = length-append (take n old ++ t) (a ∷ []) ∙ omega arith in
-          let x : take m mid ≡ take n old ++ t = ap (take m) e ∙ take-at (take n old ++ t) (a ∷ r) m z in
-          let w : drop (m + 1) mid ≡ r = ap (drop (m + 1)) (e ∙ sym (append-assoc (take n old ++ t) (a ∷ []) r)) ∙ drop-at ((take n old ++ t) ++ (a ∷ [])) r (m + 1) y in
-          g .holds (omega (arith, f .same)) ∙ rw (x, w) (simp append-assoc);
-    }
+-- nothing at the start
+pub wrote-none : (old : List ℕ) → Wrote [] old old 0
+wrote-none old = record { counts = refl; same = refl; holds = λ _. refl }
+
+-- b after a, in the part of what a left that starts at `at`
+module _ {a b old mid part : List ℕ} {n m at : ℕ} where
+  pub then : Wrote a old mid n → (at ≤ length mid) × (n ≤ length mid → at ≡ n) → Wrote b (take (length mid - at) (drop at mid)) part m
+      → Wrote (a ++ b) old (putMid at (length mid - at) mid part) (n + m)
+  then v (h, e) w =
+      let z : take (length mid - at) (drop at mid) ≡ drop at mid = take-all (length mid - at) (drop at mid) (simp length-drop (omega arith)) in
+      let y : drop (length mid - at) (drop at mid) ≡ [] = drop-of-length-le (drop at mid) {i = length mid - at} (simp length-drop (omega arith)) in
+      record {
+        counts = omega (arith, length-append a b, v .counts, w .counts);
+        same = same-len-mid at (length mid - at) mid part (w .same) ∙ v .same;
+        holds = λ k.
+            let c = v .counts in
+            let d = v .same in
+            let f : at ≡ n = e (omega arith) in
+            let g : length a ≡ at = omega arith in
+            let p : mid ≡ a ++ drop n old = v .holds (omega arith) in
+            let q : drop at mid ≡ drop n old = ap (drop at) p ∙ drop-at a (drop n old) at g in
+            let l : m ≤ length (take (length mid - at) (drop at mid)) = rw (z, length-drop) (omega arith) in
+            let r : part ≡ b ++ drop m (drop n old) = rw (z, q) at (w .holds l) in
+            let s : take at mid ≡ a = ap (take at) p ∙ take-at a (drop n old) at g in
+            rw (y, append-nil, s, r, drop-drop, append-assoc);
+      }
+
+-- ------------------------------------------------------------------ measured over no bytes, and then written
+
+front-empty : (ys xs : List ℕ) → length ys ≡ 0 → ys ++ xs ≡ xs
+front-empty [] xs e = refl
+front-empty (y ∷ ys) xs e = absurd (omega arith)
+
+module _ {t ys : List ℕ} {n : ℕ} (xs : List ℕ) (w : Wrote t (take 0 xs) ys n) where
+  -- what was measured over is as it was
+  untouched : ys ++ xs ≡ xs
+  untouched = front-empty ys xs (w .same)
+
+  pub over-limit : {limit : ℕ} → limit < n → WroteWithin limit t xs (ys ++ xs) TooLong
+  over-limit {limit} h =
+      let c = w .counts in
+      let e : tooLong limit t xs ≡ true = rw (lt-ltb limit (length t) (omega arith)) in
+      record { answer = rw e; output = rw e untouched }
+
+  pub over-output : {limit : ℕ} → length (ys ++ xs) < n → WroteWithin limit t xs (ys ++ xs) TooLong
+  over-output {limit} h =
+      let c = w .counts in
+      let l = ap length untouched in
+      let e : tooLong limit t xs ≡ true = rw (lt-ltb (length xs) (length t) (omega arith)) (or-true (ltb limit (length t))) in
+      record { answer = rw e; output = rw e untouched }
+
+  pub within-both : {zs : List ℕ} {m limit : ℕ} → n ≤ limit → n ≤ length (ys ++ xs) → Wrote t (ys ++ xs) zs m → WroteWithin limit t xs zs (Bytes m)
+  within-both {limit = limit} h k v =
+      let c = w .counts in
+      let d = v .counts in
+      let l = ap length untouched in
+      let e : tooLong limit t xs ≡ false = rw (le-ltb limit (length t) (omega arith), le-ltb (length xs) (length t) (omega arith)) in
+      record { answer = rw (e, d); output = rw e (v .holds (omega arith) ∙ rw (d, untouched)) }

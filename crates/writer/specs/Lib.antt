@@ -1,4 +1,5 @@
 pub mod Spelling
 pub mod NormalText
 pub mod Promise
+pub mod Walk
 pub mod Examples
