@@ -1,14 +1,14 @@
 -- The records of a tree, whether it fits or not, stand in its words, and their texts in its texts.
 -- Assumes nothing.
-use Prim.Native.Nat.{ℕ, zero, suc, _+_, _*_, _/_, _≤_, _<_}
+use Prim.Native.Nat.{ℕ, suc, _+_, _*_, _≤_, _<_}
 use native.Mathlib.Omega.{arith}
-use mathlib.Core.Path.{_≡_, refl, ap, sym, _∙_}
+use mathlib.Core.Path.{_≡_, refl}
 use mathlib.Core.List.{List, [], _∷_, _++_, append-assoc}
 use native.Mathlib.Decide.{decLt}
-use lib.ListN.{length, drop, getD, length-append}
+use lib.ListN.{length, getD, length-append}
 use lib.Seq.{getD-append-add}
-use Rattle.tree.specs.Records.{Row, Branch, Node, nodes, Record, width, wordsOf, placeOf, recordOf, recordsFrom, words, textsOf, records, texts}
-use Rattle.tree.specs.Promise.{countOf, wordAt, nodeAt, At, All}
+use Rattle.tree.specs.Records.{Branch, Node, nodes, width, wordsOf, placeOf, recordOf, recordsFrom, words, textsOf, records, texts}
+use Rattle.tree.specs.Promise.{countOf, wordAt, At, All}
 use Rattle.tree.proofs.Encoded.{Lies, lies-length, lies-after, lies-part, cut-text}
 
 -- behind lo records, the word k

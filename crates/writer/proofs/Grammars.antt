@@ -1,12 +1,12 @@
 -- The records of a stored grammar, as the walk over them wants them.
 -- Assumes nothing.
-use Prim.Native.Nat.{ℕ, _+_, _-_, _≤_, _<_, _^_}
+use Prim.Native.Nat.{ℕ, _+_, _-_, _<_, _^_}
 use native.Mathlib.Omega.{arith}
 use mathlib.Core.Path.{_≡_, refl, ap, sym, _∙_}
 use mathlib.Core.List.{List, [], _∷_, _++_}
 use lib.ListN.{length}
 use Rattle.tree.specs.Syntax.{GrammarDeclaration}
-use Rattle.tree.specs.Records.{Row, Branch, branch, Branches, count, Node, nodes, nodesAll, records, texts, words}
+use Rattle.tree.specs.Records.{Row, Branch, branch, count, Node, nodes, nodesAll, records, texts, words}
 use Rattle.tree.specs.Stored.{grammarBranch, grammarRecords, grammarTexts, grammarWords}
 use Rattle.tree.specs.Promise.{countOf, wordAt, All}
 use Rattle.tree.proofs.Back.{all-left, root-at, past-root, nodes-some}

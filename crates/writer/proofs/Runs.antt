@@ -3,12 +3,9 @@
 use Prim.Native.Nat.{ℕ, zero, suc, _+_, _-_, _*_, _≤_, _<_}
 use native.Mathlib.Omega.{arith}
 use mathlib.Core.Path.{_≡_, refl, ap, sym, _∙_}
-use mathlib.Core.Bool.{Bool, true, false}
 use mathlib.Core.List.{List, [], _∷_, _++_, append-assoc, append-nil}
-use lib.Dec.{eqb}
 use lib.ListN.{length, length-append}
 use borrow.Author.Tests.{ne-eqb, eq-eqb}
-use Rattle.basics.specs.Basics.{if_then_else_}
 use Rattle.tree.specs.Records.{Row, Branch, branch, Branches, []ᴮ, _∷ᴮ_, count, Node, nodes, nodesAll}
 use Rattle.tree.specs.OneTree.{kindOf}
 use Rattle.tree.specs.Promise.{wordAt, firstOf, kindBefore, All}

@@ -6,14 +6,14 @@ use mathlib.Core.Path.{_≡_, refl}
 use mathlib.Core.Bool.{Bool, true, false, _&&_, _||_}
 use mathlib.Core.List.{List, [], _∷_, _++_}
 use lib.Dec.{eqb, leb}
-use lib.ListN.{length, drop, length-append, length-take, length-drop}
+use lib.ListN.{length, drop, length-append, length-take}
 use borrow.Author.Tests.{leb-true}
 use Rattle.basics.specs.Basics.{if_then_else_, letters, among}
 use Rattle.basics.proofs.Tests.{cases, both-true}
 use Rattle.writer.specs.Walk.{Entry, textFor, expressionCommas, listCommas, expressionOpens, nodeOpens, listOpens, listShuts, expressionTails, sourceTails, nameTails, propWords, externalWords, specializeWords, sequenceWords, setWords, classWords, kindWords, precWords, partEnds, repeatWords, listEnds, kindEnds, dialectEnds, detectWords, comma, opens, shuts, newLine, separator, between, source, tail, inBrackets, isLine, tokenless, lead, ends, before, spelled, after, own, blockEnd, close, class, setting, link, front, back, closing}
 use Rattle.writer.specs.Spelling.{quoted, spanText, spell}
 use Rattle.writer.specs.Promise.{Wrote, Lent, rowAt}
-use Rattle.characters.specs.Spans.{Span, _upto_}
+use Rattle.characters.specs.Spans.{_upto_}
 use Rattle.lexer.specs.Tokens.{Kind}
 use Rattle.tree.specs.Records.{Row}
 use Rattle.tree.specs.Promise.{wordAt}

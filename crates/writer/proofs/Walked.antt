@@ -3,8 +3,8 @@
 use Prim.Native.Nat.{ℕ}
 use Prim.Native.Char.{Char}
 use mathlib.Core.Path.{_≡_, refl, sym, _∙_, ap}
-use mathlib.Core.Bool.{Bool, true, false}
-use mathlib.Core.List.{List, [], _∷_, _++_, append-assoc, append-nil}
+use mathlib.Core.Bool.{false}
+use mathlib.Core.List.{List, [], _∷_, _++_, append-assoc}
 use lib.Dec.{eqb}
 use Rattle.basics.specs.Basics.{if_then_else_, letters}
 use Rattle.basics.proofs.Tests.{cases}
@@ -15,7 +15,7 @@ use Rattle.tree.specs.OneTree.{kindOf}
 use Rattle.writer.specs.Spelling.{quoted, spell, spaced}
 use Rattle.tree.specs.Stored as Stored
 use Rattle.writer.specs.NormalText.{each, eachAfter, commas, bracketed, mark}
-use Rattle.writer.specs.Walk.{class, between, separator, source, link, tail, setting, lead, ends, before, spelled, after, own, close, blockEnd, front, back, lastClass, branchText, branchesText}
+use Rattle.writer.specs.Walk.{class, between, source, link, tail, setting, lead, ends, before, spelled, after, own, close, front, back, lastClass, branchText, branchesText}
 use Rattle.writer.proofs.Bytes.{string-bytes, encode-append}
 
 abbrev pub classOf : Branch → ℕ

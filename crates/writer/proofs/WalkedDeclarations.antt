@@ -2,22 +2,21 @@
 -- Assumes nothing.
 use Prim.Native.Nat.{ℕ}
 use mathlib.Core.Path.{_≡_, refl, sym, _∙_, ap}
-use mathlib.Core.Bool.{Bool, true, false}
 use mathlib.Core.List.{List, [], _∷_, _++_}
 use mathlib.Core.Option.{Option, none, some}
 use Rattle.basics.specs.Basics.{letters}
 use Rattle.characters.specs.Utf8.{encode, encodeAll}
 use Rattle.lexer.specs.Tokens.{Kind}
-use Rattle.tree.specs.Syntax.{Identifier, Prop, SpecializeKind, extend, specialize, Expression, RuleDeclaration, TokenReference, referred, TokenPrecDeclaration, TokenConflictDeclaration, LiteralDeclaration, NamedNode, ExternalPropDeclaration, PrecKind, left, right, cut, PrecItem, Declaration, topRule, rule, tokens, localTokens, context, externalTokens, externalSpecializer, externalPropSource, precedences, mainSkip, scopedSkip}
+use Rattle.tree.specs.Syntax.{Identifier, Prop, SpecializeKind, extend, specialize, Expression, RuleDeclaration, referred, TokenPrecDeclaration, TokenConflictDeclaration, LiteralDeclaration, NamedNode, ExternalPropDeclaration, PrecKind, left, right, cut, PrecItem, Declaration, topRule, rule, tokens, localTokens, context, externalTokens, externalSpecializer, externalPropSource, precedences, mainSkip, scopedSkip}
 use Rattle.tree.specs.Syntax as Syntax
-use Rattle.tree.specs.Records.{Row, Branch, branch, Branches, []ᴮ, _∷ᴮ_}
-use Rattle.tree.specs.Stored.{full, named, valued, plain, leaf, propBranch, specializeValue, expressionBranch, nameBranch, sourceBranch, ruleBranch, referenceBranch, tokenPrecBranch, tokenConflictBranch, literalBranch, namedNodeBranch, fallbackBranches, precValue, precItemBranch, declarationBranch, externalPropBranch}
+use Rattle.tree.specs.Records.{Row, branch, Branches, []ᴮ, _∷ᴮ_}
+use Rattle.tree.specs.Stored.{full, named, plain, leaf, propBranch, specializeValue, expressionBranch, nameBranch, sourceBranch, ruleBranch, referenceBranch, tokenPrecBranch, tokenConflictBranch, literalBranch, namedNodeBranch, fallbackBranches, precValue, precItemBranch, declarationBranch, externalPropBranch}
 use Rattle.tree.specs.Stored as Stored
 use Rattle.writer.specs.Spelling.{quoted, spell}
 use Rattle.writer.specs.NormalText.{propTokens, each, eachAfter, commas, bracketed, mark, word, at, string, identifier, fromTokens, specializeWord, propsTokens, expressionTokens, bodyTokens, ruleTokens, topRuleTokens, referenceTokens, tokenPrecTokens, tokenConflictTokens, literalTokens, namedNodeTokens, fallbackTokens, precTokens, precItemTokens, conflictsTokens, externalSetTokens, declarationTokens, externalPropTokens}
 use Rattle.writer.specs.Walk.{textFor, comma, opens, shuts, between, separator, tail, setting, inBrackets, isLine, tokenless, lead, ends, before, spelled, after, close, blockEnd, lastClass}
 use Rattle.writer.specs.Walk as Walk
-use Rattle.writer.proofs.Walked.{classOf, sourceOn, body, walks, led, led-string, Child, child, children-after, children, children-commas, children-bracketed, last-each}
+use Rattle.writer.proofs.Walked.{sourceOn, body, walks, led, led-string, Child, child, children-after, children, children-commas, children-bracketed, last-each}
 use Rattle.writer.proofs.WalkedExpressions.{Holds, prop-child, props, expression-class, expression-child, expression}
 
 -- ------------------------------------------------------------------ names and rules

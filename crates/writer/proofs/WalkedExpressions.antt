@@ -9,14 +9,14 @@ use Rattle.characters.specs.Spans.{Span}
 use Rattle.characters.specs.Utf8.{encode, encodeAll}
 use Rattle.lexer.specs.Tokens.{Kind}
 use Rattle.tree.specs.Syntax.{PropPart, value, name, Prop, ConflictMarkerKind, ambiguity, precedence, ConflictMarker, SpecializeKind, extend, specialize, RepeatKind, optional, zeroOrMore, oneOrMore, CharClass, asciiLetter, asciiLowercase, asciiUppercase, digit, whitespace, eof, Expression, special, inline, choice, sequence, empty, repeat, set, any, class, Expressions, []ᴱ, _∷ᴱ_, Slots, last, slot}
-use Rattle.tree.specs.Records.{Row, Branch, branch, Branches, []ᴮ, _∷ᴮ_}
-use Rattle.tree.specs.Stored.{full, named, valued, plain, leaf, flag, partBranch, propBranch, markerNumber, markerBranch, spanBranch, specializeValue, repeatValue, expressionBranch, expressionBranches, slotBranches}
+use Rattle.tree.specs.Records.{Row, branch, Branches, []ᴮ, _∷ᴮ_}
+use Rattle.tree.specs.Stored.{full, named, valued, plain, leaf, flag, partBranch, propBranch, markerNumber, markerBranch, spanBranch, expressionBranch, expressionBranches, slotBranches}
 use Rattle.tree.specs.Stored as Stored
-use Rattle.writer.specs.Spelling.{quoted, spanText, spansText, opening, spell}
-use Rattle.writer.specs.NormalText.{each, eachAfter, mark, propTokens, propsTokens, partTokens, valueTokens, propName, markerTokens, isChoice, isSequence, bracketIf, specializeWord, repeatSign, expressionTokens, argumentsTokens, moreArguments, armsTokens, moreArms, slotsTokens}
-use Rattle.writer.specs.Walk.{textFor, comma, opens, shuts, between, separator, source, tail, setting, inBrackets, isLine, tokenless, lead, ends, before, spelled, after, close, blockEnd, lastClass}
+use Rattle.writer.specs.Spelling.{spanText, spansText, spell}
+use Rattle.writer.specs.NormalText.{each, mark, propTokens, propsTokens, partTokens, valueTokens, propName, markerTokens, isChoice, isSequence, bracketIf, expressionTokens, argumentsTokens, moreArguments, armsTokens, moreArms, slotsTokens}
+use Rattle.writer.specs.Walk.{textFor, comma, opens, shuts, between, separator, tail, setting, inBrackets, isLine, tokenless, lead, ends, before, spelled, after, close, blockEnd, lastClass}
 use Rattle.writer.specs.Walk as Walk
-use Rattle.writer.proofs.Bytes.{string-bytes, set-bytes}
+use Rattle.writer.proofs.Bytes.{set-bytes}
 use Rattle.writer.proofs.Walked.{classOf, sourceOn, body, walks, led, led-string, Child, children-bracketed}
 
 -- ------------------------------------------------------------------ props

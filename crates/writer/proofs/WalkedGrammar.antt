@@ -3,18 +3,18 @@
 use Prim.Native.Nat.{ℕ}
 use mathlib.Core.Path.{_≡_, refl, sym, _∙_, ap}
 use mathlib.Core.Bool.{Bool, true, false}
-use mathlib.Core.List.{List, [], _∷_, _++_, map, append-assoc, append-nil}
+use mathlib.Core.List.{List, [], _∷_, _++_, map, append-assoc}
 use lib.Dec.{eqb}
 use Rattle.basics.specs.Basics.{letters}
 use Rattle.characters.specs.Utf8.{encode, encodeAll}
 use Rattle.lexer.specs.Tokens.{Kind}
 use Rattle.tree.specs.Syntax.{Identifier, ExternalPropDeclaration, Declaration, topRule, rule, tokens, localTokens, context, externalTokens, externalSpecializer, externalPropSource, precedences, mainSkip, scopedSkip, GrammarDeclaration}
-use Rattle.tree.specs.Records.{Row, Branch, branch, Branches, []ᴮ, _∷ᴮ_}
+use Rattle.tree.specs.Records.{Branch, Branches, []ᴮ, _∷ᴮ_}
 use Rattle.tree.specs.Stored.{valued, flag, nameBranch, declarationBranch, externalPropBranch, grammarBranch}
 use Rattle.tree.specs.Stored as Stored
 use Rattle.writer.specs.Spelling.{spell, spaced}
-use Rattle.writer.specs.NormalText.{eachAfter, commas, mark, at, identifier, declarationTokens, externalPropTokens, dialectsLines, detectLines, lines, linesText, normalText}
-use Rattle.writer.specs.Walk.{textFor, newLine, between, separator, tail, setting, inBrackets, isLine, tokenless, lead, ends, before, spelled, after, close, blockEnd, lastClass, branchesText, closing, treeText}
+use Rattle.writer.specs.NormalText.{eachAfter, mark, at, identifier, declarationTokens, externalPropTokens, dialectsLines, detectLines, lines, linesText, normalText}
+use Rattle.writer.specs.Walk.{textFor, newLine, between, separator, tail, setting, inBrackets, isLine, tokenless, lead, ends, before, spelled, after, close, blockEnd, lastClass, closing, treeText}
 use Rattle.writer.specs.Walk as Walk
 use Rattle.writer.proofs.Bytes.{encode-append}
 use Rattle.writer.proofs.Walked.{classOf, sourceOn, body, walks, walks-on, led, led-spaced}

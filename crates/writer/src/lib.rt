@@ -17,7 +17,7 @@ ghost use Rattle.lexer.specs.Tokens.{Kind};
 ghost use Rattle.writer.specs.Spelling.{quoted, hexDigit, hexFrom, codeText, spanText, spell};
 ghost use Rattle.tree.specs.Promise.{countOf, wordAt};
 ghost use Rattle.writer.specs.Promise.{Adds, Wrote, digitAt, Lent, rowAt, Run, Stored, WroteNormal, WroteNormalWithin};
-ghost use Rattle.writer.specs.Walk.{textFor, expressionCommas, listCommas, expressionOpens, nodeOpens, listOpens, listShuts, expressionTails, sourceTails, nameTails, propWords, externalWords, specializeWords, sequenceWords, setWords, classWords, kindWords, precWords, partEnds, repeatWords, listEnds, kindEnds, dialectEnds, detectWords, class as classD, comma, opens, shuts, newLine, separator, between, source, link, tail, setting as settingD, inBrackets, isLine, tokenless, lead, ends, before, spelled, after, own, blockEnd, close, lastAt, front, back, WroteOne, WroteRun, closing};
+ghost use Rattle.writer.specs.Walk.{textFor, expressionCommas, listCommas, expressionOpens, nodeOpens, listOpens, listShuts, expressionTails, sourceTails, nameTails, propWords, externalWords, specializeWords, sequenceWords, setWords, classWords, kindWords, precWords, partEnds, repeatWords, listEnds, kindEnds, dialectEnds, detectWords, class as classD, comma, opens, newLine, separator, between, source, link, tail, setting as settingD, inBrackets, isLine, tokenless, lead, ends, before, spelled, after, own, blockEnd, close, lastAt, front, back, WroteOne, WroteRun, closing};
 use tree::count;
 use tree::first;
 use tree::is_expression;

@@ -1,7 +1,6 @@
 -- `writer::put_source` meets its contract. Assumes nothing.
 use borrow.Author.Tests.{ne-eqb}
 use native.Mathlib.Omega.{arith}
-use Prim.Native.Nat.{_≤_}
 use Rattle.writer.specs.Walk.{source}
 use Rattle.writer.proofs.Writes.{wrote-none, then}
 use Rattle.writer.proofs.Small.{row-small}
