@@ -1,18 +1,14 @@
 -- What the functions on expressions come to, path by path.
 -- Assumes nothing.
-use Prim.Native.Nat.{ℕ, zero, suc, _+_, _-_, _≤_, _<_}
-use native.Mathlib.Omega.{arith}
-use mathlib.Core.Path.{_≡_, refl, ap, sym, _∙_}
-use mathlib.Core.Bool.{Bool, true, false, _&&_, _||_}
-use mathlib.Core.List.{List, [], _∷_, _++_}
-use mathlib.Core.Option.{Option, none, some}
-use Rattle.error.specs.Causes.{tooDeep, emptyArm, inlineParameters}
+use Prim.Native.Nat.{ℕ, _+_, _-_, _<_}
+use mathlib.Core.Path.{_≡_, refl, _∙_}
+use mathlib.Core.Bool.{Bool, true, false}
+use mathlib.Core.List.{List}
 use Rattle.lexer.specs.Tokens.{Tokens}
-use Rattle.lexer.specs.Promise.{partOf}
-use Rattle.tree.specs.Syntax.{Expression, Identifier, Prop, RepeatKind, SpecializeKind, RuleDeclaration, expressions}
-use Rattle.parser.specs.Parser.{Answer, read, refused, Parser, andThen, _>>=_, pure, refuse, choose, startOf, here, refuseHere, next, eat, expect, loop, until, comma, parseIdentifier}
-use Rattle.parser.specs.Expressions.{Item, expression, contentBy, referenceOf, inlineBy, stacked, parseRepeat, repeated, slots, sequenceOf, firstEmptyArm, choiceBy, choiceOf, parseBracedExpression, parseRuleNamed, parseInlineRuleExpression, parseSpecializeExpression, parseParenthesizedExpression, parseArguments, parseExpressionInner, parseExpressionSuffix, parseItem, parseExpressionSequence, parseArm, parseExpressionChoice, choiceAt, parseProps}
-use Rattle.parser.specs.Shapes.{nameArguments, argumentsList, Head, parseParams, parseHead, specializeHead, secondPart, SpecializeParts, specializeParts}
+use Rattle.tree.specs.Syntax.{Expression, Prop, SpecializeKind, expressions}
+use Rattle.parser.specs.Parser.{Answer, read, refused, Parser, andThen, _>>=_, pure, choose, next, eat, expect}
+use Rattle.parser.specs.Expressions.{contentBy, referenceOf, parseBracedExpression, parseSpecializeExpression, parseParenthesizedExpression, parseProps}
+use Rattle.parser.specs.Shapes.{specializeHead, secondPart, SpecializeParts, specializeParts}
 
 -- ------------------------------------------------------------------ in braces, and a second part
 

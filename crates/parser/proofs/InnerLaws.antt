@@ -25,7 +25,7 @@ use Rattle.tree.specs.Syntax.{Expression, Prop, expressions}
 use Rattle.tree.proofs.Encoded.{texts-append}
 use Rattle.parser.specs.Parser.{Answer, read, refused, Parser, andThen, _>>=_, pure, next, eat, comma, size, loop, untilStep}
 use Rattle.parser.specs.Expressions.{parseBracedExpression, parseArguments, choiceAt, parseInlineRuleExpression, parseParenthesizedExpression, parseExpressionInner}
-use Rattle.parser.specs.Promise.{stream, startIn, endIn, namePart, atPart, stringPart, markOf, nameOf, atOf, arrival, LiesIn, Lies}
+use Rattle.parser.specs.Promise.{stream, startIn, endIn, namePart, atPart, stringPart, markOf, nameOf, arrival, LiesIn, Lies}
 use Rattle.parser.specs.Storing.{Lent, lent, Stores, node, flat, nodesOf}
 use Rattle.parser.specs.Steps.{placed, Onward, Lays, Ready, Lists, stepBy, Opens}
 use Rattle.parser.specs.Shapes.{IsToken, IsMark, Behind, isStd, Expresses, Yields, YieldsBraced, ExpressesBraced, nameArguments, Heads, inlineText, inlineBytes, InlineName, InlinePart, ReadyInline}

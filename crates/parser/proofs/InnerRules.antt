@@ -1,34 +1,33 @@
 -- What an expression without its repeats comes to, by its first token.
 -- Assumes nothing.
-use Prim.Native.Nat.{ℕ, zero, suc, _+_, _-_, _≤_, _<_}
+use Prim.Native.Nat.{ℕ, _+_, _-_, _<_}
 use native.Mathlib.Omega.{arith}
-use mathlib.Core.Path.{_≡_, refl, ap, sym, _∙_}
-use mathlib.Core.Bool.{Bool, true, false, _&&_, _||_}
-use mathlib.Core.List.{List, [], _∷_, _++_}
-use mathlib.Core.Option.{Option, none, some}
-use borrow.Author.Tests.{eq-eqb, ne-eqb}
+use mathlib.Core.Path.{_≡_, refl, sym, _∙_}
+use mathlib.Core.Bool.{Bool, true, false}
+use mathlib.Core.List.{List, [], _∷_}
+use mathlib.Core.Option.{some}
+use borrow.Author.Tests.{ne-eqb}
 use lib.Dec.{ltb}
 use lib.ListN.{length}
-use Rattle.basics.specs.Basics.{if_then_else_, letters, is, same, spells, every}
+use Rattle.basics.specs.Basics.{letters, same, spells, every}
 use Rattle.error.specs.Causes.{unexpectedToken, inlineParameters}
 use Rattle.characters.specs.Places.{cut}
 use Rattle.lexer.specs.declared.Kind.{Kind}
 use Rattle.lexer.specs.declared.Kind.the-variants as K
 use Rattle.lexer.specs.Tokens as T
 use Rattle.lexer.specs.Tokens.{Tokens}
-use Rattle.lexer.specs.Promise.{tokensAt, partOf}
+use Rattle.lexer.specs.Promise.{partOf}
 use Rattle.lexer.specs.Promise as L
 use Rattle.lexer.proofs.Spelled.{spells-codes}
-use Rattle.tree.specs.CharClasses.{fromName}
 use Rattle.tree.specs.Syntax.{Expression, Identifier, Prop, SpecializeKind, RuleDeclaration, expressions}
-use Rattle.parser.specs.Parser.{Answer, read, refused, Parser, andThen, _>>=_, _>>_, pure, refuse, choose, startOf, here, refuseHere, kindOf, kind, markIn, atIn, nameIn, isMark, next, eat, expect, until, comma, parseIdentifier}
-use Rattle.parser.specs.Expressions.{classBy, stdClassBy, parseSetExpression, inlineBy, parseBracedExpression, parseRuleNamed, parseInlineRuleExpression, parseSpecializeExpression, parseParenthesizedExpression, parseArguments, parseNamed, innerBy, parseExpressionInner, parseProps}
-use Rattle.parser.specs.Promise.{stream, startIn, codeIn, markOf, nameOf, atOf, textIn}
+use Rattle.parser.specs.Parser.{Answer, read, refused, Parser, andThen, _>>=_, _>>_, pure, refuse, choose, startOf, here, refuseHere, kindOf, kind, next, eat, until, comma, parseIdentifier}
+use Rattle.parser.specs.Expressions.{inlineBy, parseBracedExpression, parseRuleNamed, parseInlineRuleExpression, parseSpecializeExpression, parseParenthesizedExpression, parseArguments, parseNamed, innerBy, parseExpressionInner, parseProps}
+use Rattle.parser.specs.Promise.{stream, startIn, markOf, nameOf, atOf}
 use Rattle.parser.specs.Shapes.{IsToken, stdClass, parseAny, parseLiteral, parseSet, classPart, isStd, named, nameArguments, argumentsList, Head, parseParams, parseHead}
 use Rattle.parser.specs.declared.Current.{Current}
 use Rattle.parser.specs.declared.Current.the-variants.{Token, End}
 use Rattle.parser.specs.declared.Part.{Part}
-use Rattle.parser.specs.declared.Part.the-variants.{From, Nothing}
+use Rattle.parser.specs.declared.Part.the-variants.{From}
 use Rattle.parser.proofs.Stream.{start-of, mark-of}
 
 module _ (below : Parser ℕ (Expression ℕ)) (s : List ℕ) (t : Current) where

@@ -1,19 +1,19 @@
 -- The loops over the items of a sequence and over the arms of a choice.
 -- Assumes nothing.
-use Prim.Native.Nat.{ℕ, zero, suc, _+_, _-_, _*_, _≤_, _<_}
+use Prim.Native.Nat.{ℕ, suc, _+_, _-_, _*_, _≤_}
 use native.Mathlib.Omega.{arith}
-use mathlib.Core.Path.{_≡_, refl, ap, sym, subst, _∙_}
-use mathlib.Core.Bool.{Bool, true, false}
+use mathlib.Core.Path.{_≡_, refl, ap, subst, _∙_}
+use mathlib.Core.Bool.{true}
 use mathlib.Core.List.{List, [], _∷_, _++_, append-nil}
-use mathlib.Core.Option.{Option, none, some}
+use mathlib.Core.Option.{none}
 use lib.ListN.{length, length-append}
 use Rattle.lexer.specs.Tokens.{Tokens}
-use Rattle.tree.specs.Records.{Node, nodes, textsOf}
+use Rattle.tree.specs.Records.{nodes, textsOf}
 use Rattle.tree.proofs.Encoded.{texts-append}
 use Rattle.tree.specs.Stored.{expressionBranch}
-use Rattle.tree.specs.Syntax.{ConflictMarker, Expression, expressions, startOf}
+use Rattle.tree.specs.Syntax.{ConflictMarker, Expression, expressions}
 use Rattle.parser.specs.Parser.{Answer, read, refused, Parser, eat, loop}
-use Rattle.parser.specs.Expressions.{Item, marker, expression, parseExpressionSequence, parseItem, parseArm, firstEmptyArm, isEmptyArm}
+use Rattle.parser.specs.Expressions.{Item, marker, expression, parseExpressionSequence, parseItem, parseArm, firstEmptyArm}
 use Rattle.parser.specs.Promise.{stream, LiesIn}
 use Rattle.parser.specs.Storing.{Lent, lent, Stores, node, flat, nodesOf}
 use Rattle.parser.specs.Steps.{placed, Onward, Lays, Ready, Lists}
@@ -24,9 +24,9 @@ use Rattle.parser.specs.declared.parts.Shape.the-variants.{Other}
 use Rattle.parser.specs.declared.parts.Empty.{Empty}
 use Rattle.parser.specs.declared.parts.Empty.the-variants as M
 use Rattle.parser.proofs.Turns.{loop-end}
-use Rattle.parser.proofs.Stored.{stores-none, stores-then}
-use Rattle.parser.proofs.Onward.{placed-in, onward-then, onward-least}
-use Rattle.parser.proofs.Lists.{Listing, listing-start, listing-turn, listing-over, listing-refused, lays-between, flat-none, flat-more}
+use Rattle.parser.proofs.Stored.{stores-then}
+use Rattle.parser.proofs.Onward.{placed-in, onward-then}
+use Rattle.parser.proofs.Lists.{Listing, listing-start, listing-turn, listing-refused, lays-between, flat-none, flat-more}
 use Rattle.parser.proofs.Shown.{shown-within, shown-choice, nodes-choice, empty-snoc, empty-first}
 use Rattle.parser.proofs.SequenceRules.{arm-some}
 use Rattle.parser.proofs.Yielded.{yields-over}

@@ -1,22 +1,19 @@
 -- Marks of repeats and of markers, and the items of a sequence.
 -- Assumes nothing.
-use Prim.Native.Nat.{ℕ, zero, suc, _+_, _*_, _≤_, _<_}
+use Prim.Native.Nat.{ℕ, _+_, _≤_}
 use native.Mathlib.Omega.{arith}
-use mathlib.Core.Path.{_≡_, refl, ap, sym, _∙_}
-use mathlib.Core.Bool.{Bool, true, false}
-use mathlib.Core.List.{List, [], _∷_, _++_}
+use mathlib.Core.Path.{_≡_, sym, _∙_}
+use mathlib.Core.List.{List, [], _∷_}
 use mathlib.Core.Option.{Option, none, some}
 use lib.ListN.{length, length-append}
 use Rattle.tree.specs.declared.ConflictMarkerKind.{ConflictMarkerKind as Declared}
 use Rattle.tree.specs.Promise.{markerOf}
-use Rattle.tree.specs.Records.{Node, nodes}
 use Rattle.tree.specs.Stored.{expressionBranch, markerBranch}
 use Rattle.tree.specs.Syntax.{ConflictMarkerKind}
 use Rattle.parser.specs.Parser.{Answer}
 use Rattle.parser.specs.Expressions.{Item, marker, expression, markerMark}
 use Rattle.parser.specs.Promise.{markOf}
 use Rattle.parser.specs.Storing.{Lent, flat}
-use Rattle.parser.specs.Steps.{placed, Lists}
 use Rattle.parser.specs.Shapes.{IsToken, markedOf, itemNodes, YieldsItems}
 use Rattle.parser.specs.declared.Current.{Current}
 use Rattle.parser.specs.declared.Current.the-variants.{Token, End}

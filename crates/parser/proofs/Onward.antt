@@ -1,35 +1,33 @@
 -- How far the functions on tokens come.
 -- Assumes nothing.
-use Prim.Native.Nat.{ℕ, zero, suc, _+_, _*_, _≤_, _<_}
+use Prim.Native.Nat.{ℕ, _+_, _≤_, _<_}
 use Prim.Native.Char.{Char, code}
 use native.Mathlib.Omega.{arith}
-use mathlib.Core.Path.{_≡_, refl, ap, sym, _∙_}
+use mathlib.Core.Path.{_≡_, refl, ap, _∙_}
 use mathlib.Core.Bool.{Bool, true, false}
-use mathlib.Core.List.{List, [], _∷_}
+use mathlib.Core.List.{List}
 use mathlib.Core.Option.{Option, none, some}
 use lib.Dec.{eqb}
 use lib.ListN.{length}
 use borrow.Author.Tests.{eqb-true}
-use Rattle.basics.specs.Basics.{is}
 use Rattle.lexer.specs.declared.Kind.{Kind}
 use Rattle.lexer.specs.declared.Kind.the-variants as K
 use Rattle.lexer.specs.Tokens as T
 use Rattle.lexer.specs.Tokens.{Tokens}
 use Rattle.lexer.specs.Promise.{tokensAt}
-use Rattle.lexer.specs.Escapes.{decodeString}
 use Rattle.tree.specs.Syntax.{Identifier}
-use Rattle.parser.specs.Parser.{Answer, read, refused, andThen, _>>=_, pure, kindOf, kind, markIn, isMark, here, refuseHere, arrive, next, eatIf, eat, must, expect, taken, parseIdentifier, expectString, size}
+use Rattle.parser.specs.Parser.{Answer, read, refused, andThen, _>>=_, pure, kind, here, refuseHere, arrive, next, eatIf, eat, must, expect, taken, parseIdentifier, expectString, size}
 use Rattle.parser.specs.declared.Current.{Current}
 use Rattle.parser.specs.declared.Current.the-variants.{Token, End}
 use Rattle.parser.specs.declared.Arrived.{Arrived}
-use Rattle.parser.specs.declared.Arrived.the-variants.{At, Refused}
+use Rattle.parser.specs.declared.Arrived.the-variants.{At}
 use Rattle.parser.specs.declared.Eaten.{Eaten}
 use Rattle.parser.specs.declared.Taken.{Taken}
 use Rattle.parser.specs.declared.Eaten.the-variants as E
 use Rattle.parser.specs.declared.Taken.the-variants as G
 use Rattle.parser.specs.declared.Part.{Part}
-use Rattle.parser.specs.declared.Part.the-variants.{From, Nothing}
-use Rattle.parser.specs.Promise.{stream, startIn, endIn, codeIn, textIn, markOf, nameOf, atOf, stringOf, arrival, LiesIn, Lies, Eats, Expects, Identifies, TakesString, EatsIf}
+use Rattle.parser.specs.declared.Part.the-variants.{From}
+use Rattle.parser.specs.Promise.{stream, startIn, endIn, textIn, markOf, nameOf, atOf, stringOf, arrival, LiesIn, Lies, Eats, Expects, Identifies, TakesString}
 use Rattle.parser.specs.Steps.{placed, Onward}
 use Rattle.parser.specs.Shapes.{IsToken}
 use Rattle.parser.proofs.Stream.{start-of, mark-of, name-of, string-of}

@@ -1,20 +1,19 @@
 -- What repeats, sequences and choices come to, path by path.
 -- Assumes nothing.
-use Prim.Native.Nat.{ℕ, zero, suc, _+_, _-_, _≤_, _<_}
+use Prim.Native.Nat.{ℕ, zero, suc, _+_, _-_}
 use native.Mathlib.Omega.{arith}
-use mathlib.Core.Path.{_≡_, refl, ap, sym, _∙_}
-use mathlib.Core.Bool.{Bool, true, false, _||_}
-use mathlib.Core.List.{List, [], _∷_, _++_}
-use mathlib.Core.Option.{Option, none, some}
+use mathlib.Core.Path.{_≡_, refl, _∙_}
+use mathlib.Core.Bool.{true, false}
+use mathlib.Core.List.{List, [], _∷_}
+use mathlib.Core.Option.{none, some}
 use lib.ListN.{length}
-use Rattle.basics.specs.Basics.{letters, among}
 use Rattle.error.specs.Causes.{tooDeep, emptyArm}
 use Rattle.lexer.specs.declared.Kind.the-variants as K
 use Rattle.lexer.specs.Tokens.{Tokens}
 use Rattle.tree.specs.Syntax.{Expression, RepeatKind, ConflictMarkerKind, expressions}
-use Rattle.parser.specs.Parser.{Answer, read, refused, Parser, andThen, _>>=_, pure, refuse, choose, startOf, here, refuseHere, kindOf, kind, markIn, endsSequence, next, eat, loop, parseIdentifier}
-use Rattle.parser.specs.Expressions.{Item, marker, expression, markerMark, stacked, parseRepeat, repeated, slots, sequenceOf, firstEmptyArm, choiceBy, choiceOf, parseExpressionInner, parseExpressionSuffix, itemBy, parseItem, parseExpressionSequence, parseArm, parseExpressionChoice, choiceAt}
-use Rattle.parser.specs.Promise.{stream, startIn, codeIn, markOf}
+use Rattle.parser.specs.Parser.{read, refused, Parser, andThen, _>>=_, pure, refuse, choose, startOf, here, refuseHere, kindOf, kind, endsSequence, eat, loop}
+use Rattle.parser.specs.Expressions.{Item, expression, markerMark, stacked, parseRepeat, repeated, slots, sequenceOf, firstEmptyArm, choiceBy, choiceOf, parseExpressionInner, parseExpressionSuffix, itemBy, parseItem, parseExpressionSequence, parseArm, parseExpressionChoice, choiceAt}
+use Rattle.parser.specs.Promise.{stream, startIn, markOf}
 use Rattle.parser.specs.Shapes.{endsBy, parseMarker}
 use Rattle.parser.specs.declared.Current.{Current}
 use Rattle.parser.specs.declared.Current.the-variants.{Token, End}

@@ -1,34 +1,32 @@
 -- Expressions between tokens: their nodes, their start and their shape.
 -- Assumes nothing.
-use Prim.Native.Nat.{ℕ, zero, suc, _+_, _-_, _*_, _≤_, _<_}
+use Prim.Native.Nat.{ℕ, zero, suc, _+_, _-_, _*_, _≤_}
 use native.Mathlib.Omega.{arith}
-use mathlib.Core.Path.{_≡_, refl, ap, sym, _∙_}
+use mathlib.Core.Path.{_≡_, refl, sym, _∙_}
 use mathlib.Core.Bool.{Bool, true, false}
 use mathlib.Core.List.{List, [], _∷_, _++_, append-assoc, append-nil}
-use mathlib.Core.Option.{Option, none, some}
+use mathlib.Core.Option.{none, some}
 use lib.ListN.{length, length-append}
 use Rattle.basics.specs.Basics.{if_then_else_}
 use Rattle.characters.specs.Utf8.{encodeAll}
 use Rattle.lexer.specs.Tokens.{Tokens}
-use Rattle.lexer.specs.Promise.{partOf}
-use Rattle.lexer.specs.Escapes.{decodeString}
-use Rattle.tree.specs.Records.{Branch, branch, Branches, []ᴮ, _∷ᴮ_, count, Node, nodes, nodesAll, textsOf}
-use Rattle.tree.specs.Stored.{each, propBranch, markerBranch, specializeValue, repeatValue, expressionBranch, expressionBranches, slotBranches}
-use Rattle.tree.specs.Syntax.{Expression, Expressions, []ᴱ, _∷ᴱ_, Slots, last, slot, Prop, ConflictMarker, SpecializeKind, RepeatKind, TokenReference, startOf, expressions}
+use Rattle.tree.specs.Records.{Branch, Branches, []ᴮ, _∷ᴮ_, count, nodes, nodesAll}
+use Rattle.tree.specs.Stored.{each, markerBranch, expressionBranch, expressionBranches, slotBranches}
+use Rattle.tree.specs.Syntax.{Expression, Expressions, slot, Prop, ConflictMarker, SpecializeKind, RepeatKind, startOf, expressions}
 use Rattle.parser.specs.Limits.{repeats}
-use Rattle.parser.specs.Parser.{Answer, read, refused, pure, refuse}
+use Rattle.parser.specs.Parser.{Answer, read}
 use Rattle.parser.specs.Expressions.{Item, marker, expression, contentBy, referenceOf, stacked, repeated, slots, sequenceOf, isEmptyArm, firstEmptyArm}
-use Rattle.parser.specs.Promise.{stream, startIn, LiesIn}
-use Rattle.parser.specs.Storing.{Lent, lent, Stores, node, flat, nodesOf}
-use Rattle.parser.specs.Steps.{placed, Onward, Lays}
-use Rattle.parser.specs.Shapes.{stackOf, isBlank, IsName, IsLiteral, Refers, Shown, Yields, repeatNodes, itemNodes, markersIn, expressionsIn, ShownOnly, contentOf, emptyOf, emptyBy, emptyFirst, sequenceShape}
+use Rattle.parser.specs.Promise.{stream}
+use Rattle.parser.specs.Storing.{Lent, node, flat, nodesOf}
+use Rattle.parser.specs.Steps.{placed, Onward}
+use Rattle.parser.specs.Shapes.{isBlank, Refers, Shown, Yields, repeatNodes, itemNodes, markersIn, expressionsIn, ShownOnly, contentOf, emptyOf, emptyBy, emptyFirst, sequenceShape}
 use Rattle.parser.specs.declared.Current.{Current}
 use Rattle.parser.specs.declared.parts.Shape.{Shape}
 use Rattle.parser.specs.declared.parts.Shape.the-variants.{Name, Literal, Repeat, Blank, Other}
 use Rattle.parser.specs.declared.parts.Empty.{Empty}
 use Rattle.parser.specs.declared.parts.Empty.the-variants as M
 use Rattle.parser.proofs.Onward.{onward-then, onward-least}
-use Rattle.parser.proofs.Lists.{flat-none, flat-more, flat-append, flat-snoc, lays-between}
+use Rattle.parser.proofs.Lists.{flat-none, flat-more, flat-snoc, lays-between}
 
 -- ------------------------------------------------------------------ nodes
 

@@ -4,7 +4,7 @@ use Prim.Native.Nat.{ℕ, zero, suc, _+_, _-_, _*_, _≤_, _<_}
 use native.Mathlib.Omega.{arith}
 use mathlib.Core.Path.{_≡_, refl, ap, sym, _∙_}
 use mathlib.Core.Bool.{Bool, true, false}
-use mathlib.Core.List.{List, [], _∷_, _++_, append-assoc, append-nil}
+use mathlib.Core.List.{List, [], _∷_, _++_, append-nil}
 use mathlib.Core.Option.{Option, none, some}
 use lib.Dec.{eqb}
 use lib.ListN.{length, length-append}
@@ -15,23 +15,23 @@ use Rattle.lexer.specs.Promise.{partOf}
 use Rattle.lexer.specs.Escapes.{decodeString}
 use Rattle.tree.specs.Records.{[]ᴮ, _∷ᴮ_, count, Node, nodes, nodesAll, textsOf}
 use Rattle.tree.specs.Stored.{each, propBranch, specializeValue, expressionBranch}
-use Rattle.tree.specs.Syntax.{Expression, Prop, SpecializeKind, RepeatKind, expressions}
+use Rattle.tree.specs.Syntax.{Expression, Prop, SpecializeKind, RepeatKind}
 use Rattle.tree.proofs.Encoded.{texts-append}
 use Rattle.parser.specs.Limits.{repeats}
-use Rattle.parser.specs.Parser.{Answer, read, refused, Parser, andThen, _>>=_, pure, choose, kind, kindOf, markIn, next, refuseHere, size, turns, loop}
-use Rattle.parser.specs.Expressions.{Item, contentBy, referenceOf, stacked, repeatMark, repeatBy, parseRepeat, repeated, slots, sequenceOf, firstEmptyArm}
+use Rattle.parser.specs.Parser.{Answer, read, refused, Parser, andThen, _>>=_, pure, kind, kindOf, markIn, refuseHere, size, turns, loop}
+use Rattle.parser.specs.Expressions.{Item, contentBy, referenceOf, repeatMark, repeatBy, parseRepeat, repeated, slots, sequenceOf}
 use Rattle.parser.specs.Promise.{stream, startIn}
 use Rattle.parser.specs.Storing.{Lent, lent, Stores, node, flat, nodesOf}
 use Rattle.parser.specs.Steps.{placed, Onward, Lays, Ready, Lists}
-use Rattle.parser.specs.Shapes.{stackOf, IsLiteral, Refers, LiteralPart, ReadyContent, Shown, Yields, YieldsParts, SpecializeParts, SpecializeHeads, StoredContent, contentOf, repeatNodes, itemNodes, markersIn, expressionsIn, YieldsItems, YieldsArms, sequenceShape}
+use Rattle.parser.specs.Shapes.{stackOf, Refers, LiteralPart, ReadyContent, Shown, Yields, YieldsParts, SpecializeParts, SpecializeHeads, StoredContent, repeatNodes, YieldsItems, sequenceShape}
 use Rattle.parser.specs.declared.Current.{Current}
 use Rattle.parser.specs.declared.parts.Shape.{Shape}
 use Rattle.parser.specs.declared.parts.Shape.the-variants.{Name, Literal, Repeat, Blank, Other}
-use Rattle.parser.proofs.Stored.{stores-none, stores-then}
+use Rattle.parser.proofs.Stored.{stores-then}
 use Rattle.parser.proofs.Onward.{placed-in, start-small, onward-then, onward-least}
-use Rattle.parser.proofs.Lists.{flat-none, flat-more, length-snoc, lays-then, lays-between}
+use Rattle.parser.proofs.Lists.{length-snoc, lays-then, lays-between}
 use Rattle.parser.proofs.Ready.{nodes-each, count-each}
-use Rattle.parser.proofs.Shown.{nodes-choice, nodes-repeated, nodes-sequence, several, alone, count-items, content-is, shown-within, shown-special, shown-sequence, shown-choice, shown-repeat, yields-within}
+use Rattle.parser.proofs.Shown.{nodes-repeated, nodes-sequence, several, alone, content-is, shown-within, shown-special, shown-sequence, shown-repeat}
 
 one-text : (y : Node) → length (textsOf (y ∷ [])) ≡ length (y .row .text)
 unfolding textsOf

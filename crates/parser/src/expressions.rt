@@ -24,22 +24,17 @@ use error::Cause;
 use lexer::Kind;
 use tree::SpecializeKind;
 ghost use mathlib.Core.Path.{_≡_};
-ghost use mathlib.Core.List.{[], _∷_};
-ghost use Prim.Native.Nat.{_+_, _≤_, _<_};
-ghost use lib.ListN.{length};
-ghost use Rattle.characters.specs.Utf8.{codes};
-ghost use Rattle.lexer.specs.Promise.{partOf, Part as PartIn};
-ghost use Rattle.tree.specs.CharClasses.{fromName};
-ghost use Rattle.tree.specs.Promise.{markerOf, specializeOf};
-ghost use Rattle.tree.specs.Stored.{nameBranch, expressionBranch};
-ghost use Rattle.parser.specs.Limits.{repeats};
+ghost use mathlib.Core.List.{[]};
+ghost use Prim.Native.Nat.{_+_, _<_};
+ghost use Rattle.tree.specs.Promise.{specializeOf};
+ghost use Rattle.tree.specs.Stored.{expressionBranch};
 ghost use Rattle.parser.specs.Parser.{loop};
-ghost use Rattle.parser.specs.Expressions.{repeatMark, markerMark, parseRepeat, parseItem, parseArm, parseExpressionInner, parseExpressionSuffix, parseExpressionSequence, choiceAt, parseBracedExpression, parseInlineRuleExpression, parseSpecializeExpression, parseParenthesizedExpression, parseArguments};
-ghost use Rattle.parser.specs.Promise.{stream, startIn, markOf, nameOf, atOf, stringOf};
+ghost use Rattle.parser.specs.Expressions.{parseItem, parseArm, parseExpressionInner, parseExpressionSuffix, parseExpressionSequence, choiceAt, parseBracedExpression, parseInlineRuleExpression, parseSpecializeExpression, parseParenthesizedExpression, parseArguments};
+ghost use Rattle.parser.specs.Promise.{stream, startIn, nameOf, atOf};
 ghost use Rattle.parser.specs.declared.Part.the-variants.{From};
-ghost use Rattle.parser.specs.Storing.{lent, Stores, node, nodesOf};
+ghost use Rattle.parser.specs.Storing.{lent, nodesOf};
 ghost use Rattle.parser.specs.Steps.{Onward, Ready, ParsesList};
-ghost use Rattle.parser.specs.Shapes.{IsToken, IsSet, IsMark, Behind, namedOf, repeatedOf, markedOf, endsBy, stackOf, isBlank, emptyBy, emptyFirst, sequenceShape, repeatNodes, paramsList, parseParams, ParsesHead, classPart, stdClass, parseAny, parseLiteral, parseSet, parseMarker, isStd, inlineBytes, inlineText, ReadyInline, InlineName, ParsesSpecializeHead, ReadyContent, StoresContent, secondPart, specializeParts, ParsesParts, named, nameArguments, argumentsList, ReadyArms, Expresses, ExpressesBraced, ExpressesArms, ExpressesItem, ExpressesItems};
+ghost use Rattle.parser.specs.Shapes.{IsToken, IsMark, Behind, inlineText, InlineName, secondPart, specializeParts, ParsesParts, named, nameArguments, argumentsList, ReadyArms, Expresses, ExpressesBraced, ExpressesArms, ExpressesItem, ExpressesItems};
 
 // `parse_braced_expression`
 pub fn braced(

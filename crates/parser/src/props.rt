@@ -9,7 +9,7 @@ use error::Cause;
 use lexer::Kind;
 ghost use mathlib.Core.Path.{_≡_};
 ghost use mathlib.Core.List.{[]};
-ghost use Prim.Native.Nat.{_≤_, _<_};
+ghost use Prim.Native.Nat.{_<_};
 ghost use lib.ListN.{length};
 ghost use Rattle.tree.specs.Stored.{partBranch, propBranch};
 ghost use Rattle.parser.specs.Expressions.{parsePart, parseProp, parseProps};

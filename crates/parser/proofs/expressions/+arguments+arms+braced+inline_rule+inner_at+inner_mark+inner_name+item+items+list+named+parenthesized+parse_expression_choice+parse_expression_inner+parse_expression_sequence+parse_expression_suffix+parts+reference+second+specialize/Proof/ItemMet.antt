@@ -1,9 +1,8 @@
 -- `item`: what its code asks. Assumes nothing.
-use Prim.Native.Nat.{ℕ, zero, suc, _+_, _-_, _*_, _≤_, _<_}
+use Prim.Native.Nat.{ℕ, _+_, _-_}
 use native.Mathlib.Omega.{arith}
-use mathlib.Core.Path.{_≡_, refl, ap, sym, _∙_}
+use mathlib.Core.Path.{refl, sym, _∙_}
 use borrow.Author.Needs.{needs}
-use Rattle.parser.proofs.Onward.{mark-token}
 use Rattle.parser.proofs.Took.{expressed, expressed-not}
 use Rattle.parser.proofs.SequenceRules.{item-marker, item-end, item-refused, item-some}
 use Rattle.parser.proofs.Marks.{marked-some, marked-none, marker-token}

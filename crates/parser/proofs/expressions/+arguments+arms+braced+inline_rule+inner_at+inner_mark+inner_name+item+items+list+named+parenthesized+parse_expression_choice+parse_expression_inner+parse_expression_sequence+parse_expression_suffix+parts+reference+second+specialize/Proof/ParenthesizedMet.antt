@@ -1,12 +1,10 @@
 -- `parenthesized`: what its code asks. Assumes nothing.
-use Prim.Native.Nat.{ℕ, zero, suc, _+_, _-_, _*_, _≤_, _<_}
+use Prim.Native.Nat.{ℕ, _+_, _-_}
 use native.Mathlib.Omega.{arith}
-use mathlib.Core.Path.{_≡_, refl, ap, sym, _∙_}
 use borrow.Author.Needs.{needs}
-use mathlib.Core.List.{List, [], _∷_, _++_}
 use Rattle.tree.specs.Syntax.{Expression}
 use Rattle.parser.specs.Promise.{startIn}
-use Rattle.parser.proofs.Onward.{onward-here, onward-then, onward-least, eat-onward, expect-onward}
+use Rattle.parser.proofs.Onward.{onward-then, eat-onward, expect-onward}
 use Rattle.parser.proofs.Ready.{ready-step, put-plain-asks}
 use Rattle.parser.proofs.Stored.{stores-none}
 use Rattle.parser.proofs.Took.{expect-at, expect-not, eat-yes, eat-no, eat-not, expressed, expressed-not}

@@ -1,10 +1,8 @@
 -- `parse_expression_choice`: what its code asks. Assumes nothing.
-use Prim.Native.Nat.{ℕ, zero, suc, _+_, _-_, _*_, _≤_, _<_}
+use Prim.Native.Nat.{ℕ, _+_, _-_}
 use native.Mathlib.Omega.{arith}
-use mathlib.Core.Path.{_≡_, refl, ap, sym, _∙_}
+use mathlib.Core.Path.{refl, sym, _∙_}
 use borrow.Author.Needs.{needs}
-use mathlib.Core.List.{List, [], _∷_, _++_}
-use mathlib.Core.Option.{some, none}
 use Rattle.parser.proofs.Stream.{start-of}
 use Rattle.parser.proofs.Took.{expressed, expressed-not, arms-read, arms-not}
 use Rattle.parser.proofs.SequenceRules.{choice-deep, choice-sequence, choice-arms, choice-one, choice-empty, choice-done}

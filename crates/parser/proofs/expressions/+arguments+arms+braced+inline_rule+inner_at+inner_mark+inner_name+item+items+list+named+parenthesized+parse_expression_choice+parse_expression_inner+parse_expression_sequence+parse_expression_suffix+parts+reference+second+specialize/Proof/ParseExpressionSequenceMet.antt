@@ -1,10 +1,8 @@
 -- `parse_expression_sequence`: what its code asks. Assumes nothing.
-use Prim.Native.Nat.{ℕ, zero, suc, _+_, _-_, _*_, _≤_, _<_}
+use Prim.Native.Nat.{ℕ, _+_, _-_}
 use native.Mathlib.Omega.{arith}
-use mathlib.Core.Path.{_≡_, refl, ap, sym, _∙_}
 use borrow.Author.Needs.{needs}
 use mathlib.Core.Logic.{inl, inr}
-use mathlib.Core.List.{List, [], _∷_, _++_}
 use Rattle.parser.proofs.Stream.{start-of}
 use Rattle.parser.proofs.Ready.{ready-on, put-plain-asks}
 use Rattle.parser.proofs.Took.{items-read, items-not}

@@ -1,10 +1,7 @@
 -- `parse_expression_suffix`: what its code asks. Assumes nothing.
-use Prim.Native.Nat.{ℕ, zero, suc, _+_, _-_, _*_, _≤_, _<_}
+use Prim.Native.Nat.{ℕ, _+_, _-_}
 use native.Mathlib.Omega.{arith}
-use mathlib.Core.Path.{_≡_, refl, ap, sym, _∙_}
 use borrow.Author.Needs.{needs}
-use Rattle.parser.specs.Promise.{startIn}
-use Rattle.parser.specs.Limits.{repeats}
 use Rattle.parser.proofs.Ready.{ready-on}
 use Rattle.parser.proofs.Openings.{listed, listed-not}
 use Rattle.parser.proofs.Took.{expressed, expressed-not}

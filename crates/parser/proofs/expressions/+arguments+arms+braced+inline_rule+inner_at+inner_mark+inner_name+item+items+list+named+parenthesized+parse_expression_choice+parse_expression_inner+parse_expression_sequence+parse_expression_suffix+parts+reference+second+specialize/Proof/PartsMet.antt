@@ -1,9 +1,9 @@
 -- `parts`: what its code asks. Assumes nothing.
-use Prim.Native.Nat.{ℕ, zero, suc, _+_, _-_, _*_, _≤_, _<_}
+use Prim.Native.Nat.{ℕ, _+_, _-_}
 use native.Mathlib.Omega.{arith}
-use mathlib.Core.Path.{_≡_, refl, ap, sym, _∙_}
+use mathlib.Core.Path.{_∙_}
 use borrow.Author.Needs.{needs}
-use Rattle.parser.proofs.Onward.{onward-here, onward-then, onward-least, eat-onward, expect-onward, start-small}
+use Rattle.parser.proofs.Onward.{onward-then, eat-onward, expect-onward}
 use Rattle.parser.proofs.Ready.{ready-past}
 use Rattle.parser.proofs.Took.{expect-at, expect-not, eat-yes, eat-no, eat-not, expressed, expressed-not, content-read}
 use Rattle.parser.proofs.ExpressionRules as R

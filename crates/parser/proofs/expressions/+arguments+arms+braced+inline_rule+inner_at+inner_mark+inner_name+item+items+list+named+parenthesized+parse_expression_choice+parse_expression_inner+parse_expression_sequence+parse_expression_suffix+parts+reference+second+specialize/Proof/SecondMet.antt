@@ -1,7 +1,6 @@
 -- `second`: what its code asks. Assumes nothing.
-use Prim.Native.Nat.{ℕ, zero, suc, _+_, _-_, _*_, _≤_, _<_}
+use Prim.Native.Nat.{ℕ, _+_, _-_}
 use native.Mathlib.Omega.{arith}
-use mathlib.Core.Path.{_≡_, refl, ap, sym, _∙_}
 use borrow.Author.Needs.{needs}
 use Rattle.parser.proofs.Onward.{onward-here, expect-onward}
 use Rattle.parser.proofs.Took.{expect-at, expect-not, expressed, expressed-not}

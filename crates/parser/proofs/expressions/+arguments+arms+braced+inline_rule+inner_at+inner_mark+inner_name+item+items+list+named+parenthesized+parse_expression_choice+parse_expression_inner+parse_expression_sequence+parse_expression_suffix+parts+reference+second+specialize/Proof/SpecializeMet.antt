@@ -1,10 +1,8 @@
 -- `specialize`: what its code asks. Assumes nothing.
-use Prim.Native.Nat.{ℕ, zero, suc, _+_, _-_, _*_, _≤_, _<_}
+use Prim.Native.Nat.{ℕ, _+_, _-_}
 use native.Mathlib.Omega.{arith}
-use mathlib.Core.Path.{_≡_, refl, ap, sym, _∙_}
 use borrow.Author.Needs.{needs}
-use Rattle.parser.proofs.Onward.{onward-then}
-use Rattle.parser.proofs.Ready.{ready-on, ready-past, put-plain-asks, lists-small}
+use Rattle.parser.proofs.Ready.{ready-on, put-plain-asks, lists-small}
 use Rattle.tree.specs.Stored.{propBranch}
 use Rattle.tree.specs.Promise.{specializeOf}
 use Rattle.parser.proofs.Took.{special-head-read, special-head-not, parts-read, parts-not}
