@@ -65,7 +65,8 @@ unfolding andThen pure
 passed v (read x vs) {w} {us} q = let z : vs ≡ us = cc in rw z
 passed v (refused n p) {w} {us} q = absurd (let z : _≡_ {A = ℕ} 0 1 = cc in omega arith)
 
-if-true : (b : Bool) (ts us : Tokens ℕ) → eatIf b ts ≡ read true us → (b ≡ true) × (next ts ≡ read tt us)
+-- what an eaten token says
+pub if-true : (b : Bool) (ts us : Tokens ℕ) → eatIf b ts ≡ read true us → (b ≡ true) × (next ts ≡ read tt us)
 unfolding eatIf _>>=_ pure
 if-true true ts us e = (refl, passed true (next ts) e)
 if-true false ts us e = absurd (let z : _≡_ {A = ℕ} 0 1 = cc in omega arith)

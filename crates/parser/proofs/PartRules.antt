@@ -8,7 +8,6 @@ use mathlib.Core.List.{List, [], _∷_, _++_, map}
 use mathlib.Core.Option.{Option, none, some}
 use lib.ListN.{length, length-append}
 use mir.Val.{boolByte}
-use Rattle.basics.specs.Basics.{if_then_else_, letters, same, spells, every}
 use Rattle.error.specs.Causes.{unexpectedToken, reversedSpan, overlappingSpan}
 use Rattle.characters.specs.Spans.{Span}
 use Rattle.characters.specs.Utf8.{codes, encodeAll}
@@ -16,7 +15,7 @@ use Rattle.characters.specs.Places.{cut}
 use Rattle.lexer.specs.Tokens.{Tokens}
 use Rattle.lexer.specs.Escapes.{decodeString}
 use Rattle.lexer.specs.Sets.{spans, fault, sorted}
-use Rattle.lexer.specs.Promise.{partOf, classNamed, ReadsAtom, atomsAt, Checks, isPlain}
+use Rattle.lexer.specs.Promise.{partOf, classNamed, ReadsAtom, atomsAt, Checks}
 use Rattle.lexer.specs.Promise as L
 use Rattle.lexer.specs.declared.Kind.the-variants as K
 use Rattle.lexer.specs.declared.words.Class.{Class}
@@ -25,15 +24,14 @@ use Rattle.lexer.specs.declared.escapes.Atom.{Atom}
 use Rattle.lexer.specs.declared.escapes.Atom.the-variants as A
 use Rattle.lexer.specs.declared.sets.Ranges.{Ranges}
 use Rattle.lexer.specs.declared.sets.Ranges.the-variants as R
-use Rattle.lexer.proofs.Spelled.{spells-codes}
 use Rattle.tree.specs.CharClasses.{fromName, classValue}
 use Rattle.tree.specs.Promise.{classOf}
 use Rattle.tree.specs.Records.{Node, nodes}
 use Rattle.tree.specs.Stored.{flag, spanBranch, expressionBranch}
-use Rattle.tree.specs.Syntax.{Expression, CharClass, asciiLetter, asciiLowercase, asciiUppercase, digit, whitespace, eof}
+use Rattle.tree.specs.Syntax.{Expression, CharClass}
 use Rattle.parser.specs.Parser.{Answer, read, refused, andThen, _>>=_, _>>_, pure, refuse, startOf, refuseHere, kind, next}
 use Rattle.parser.specs.Expressions.{classBy, stdClassBy, setBy, parseSetExpression, literalOf, referenceOf, stacked, isEmptyArm}
-use Rattle.parser.specs.Promise.{stream, startIn, endIn, nameOf, atOf, stringOf, textIn, arrival, LiesIn, Lies}
+use Rattle.parser.specs.Promise.{stream, startIn, endIn, nameOf, atOf, stringOf, textIn, arrival, LiesIn, Lies, classOf as classIn}
 use Rattle.parser.specs.Storing.{Lent, lent, Stores, StoresPlain, StoresSpans, StoresSet, node, flat, nodesOf}
 use Rattle.parser.specs.Steps.{placed, Holds, Onward, Lays, Ready}
 use Rattle.parser.specs.Shapes.{IsToken, IsSet, Shown, Yields, Expresses, namedOf, classPart, stdClass, parseAny, parseLiteral, parseSet}
@@ -50,6 +48,7 @@ use Rattle.parser.specs.declared.parts.Expressed.{Expressed}
 use Rattle.parser.specs.declared.parts.Expressed.the-variants as E
 use Rattle.parser.proofs.Stream.{start-of, name-of, at-of}
 use Rattle.parser.proofs.Stored.{stores-then}
+use Rattle.parser.proofs.Classes.{class-of-bytes}
 use Rattle.parser.proofs.Onward.{placed-in, start-small, onward-here}
 use Rattle.parser.proofs.Spread.{length-sorted}
 use Rattle.parser.proofs.Ready.{Held, Got, held, part-short, cut-length, got-less, next-got, string-in, stored-text, lays-leaf, arrived-at, nodes-leaf, nodes-over}
@@ -150,37 +149,8 @@ module _ (s : List ℕ) (t : Current) {n x : ℕ} (f : Ready s t n x) (i : IsTok
 
 -- the class that a name stands for, by its bytes
 module _ (b : List ℕ) (e : encodeAll (codes b) ≡ b) where
-  spelled : (w : List ℕ) → isPlain w ≡ true → same w (codes b) ≡ same w b
-  spelled w h = sym (spells-codes w b h e)
-
-  abbrev pub classIn : Class → Option CharClass
-  classIn C.AsciiLetter = some asciiLetter
-  classIn C.AsciiLowercase = some asciiLowercase
-  classIn C.AsciiUppercase = some asciiUppercase
-  classIn C.Digit = some digit
-  classIn C.Whitespace = some whitespace
-  classIn C.Eof = some eof
-  classIn C.Missing = none
-
-  class-by : (a₁ a₂ a₃ a₄ a₅ a₆ : Bool)
-      → (if a₁ then some asciiLetter else if a₂ then some asciiLowercase else if a₃ then some asciiUppercase else if a₄ then some digit else if a₅ then some whitespace else if a₆ then some eof else none)
-      ≡ classIn (if a₁ then C.AsciiLetter else if a₂ then C.AsciiLowercase else if a₃ then C.AsciiUppercase else if a₄ then C.Digit else if a₅ then C.Whitespace else if a₆ then C.Eof else C.Missing)
-  class-by true a₂ a₃ a₄ a₅ a₆ = refl
-  class-by false true a₃ a₄ a₅ a₆ = refl
-  class-by false false true a₄ a₅ a₆ = refl
-  class-by false false false true a₅ a₆ = refl
-  class-by false false false false true a₆ = refl
-  class-by false false false false false true = refl
-  class-by false false false false false false = refl
-
-  pub class-is : fromName (codes b) ≡ classIn (classNamed b)
-  unfolding classNamed every
-  class-is =
-      rw (spelled (letters "asciiLetter") refl, spelled (letters "asciiLowercase") refl, spelled (letters "asciiUppercase") refl, spelled (letters "digit") refl, spelled (letters "whitespace") refl, spelled (letters "eof") refl)
-      (class-by (spells "asciiLetter" b) (spells "asciiLowercase" b) (spells "asciiUppercase" b) (spells "digit" b) (spells "whitespace" b) (spells "eof" b))
-
   pub class-from : {k : Class} → k ≡ classNamed b → classIn k ≡ fromName (codes b)
-  class-from h = rw h (sym class-is)
+  class-from h = rw h (class-of-bytes b e)
 
 module _ (r : ClassNamed) {o : Option CharClass} (e : namedOf r ≡ o) where
   pub named-some : {k : _} → r ≡ N.Class k → o ≡ some (classOf k)

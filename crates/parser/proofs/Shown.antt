@@ -10,8 +10,8 @@ use lib.ListN.{length, length-append}
 use Rattle.basics.specs.Basics.{if_then_else_}
 use Rattle.characters.specs.Utf8.{encodeAll}
 use Rattle.lexer.specs.Tokens.{Tokens}
-use Rattle.tree.specs.Records.{Branch, Branches, []ᴮ, _∷ᴮ_, count, nodes, nodesAll}
-use Rattle.tree.specs.Stored.{each, markerBranch, expressionBranch, expressionBranches, slotBranches}
+use Rattle.tree.specs.Records.{[]ᴮ, _∷ᴮ_, count, nodes, nodesAll}
+use Rattle.tree.specs.Stored.{markerBranch, expressionBranch, expressionBranches, slotBranches}
 use Rattle.tree.specs.Syntax.{Expression, Expressions, slot, Prop, ConflictMarker, SpecializeKind, RepeatKind, startOf, expressions}
 use Rattle.parser.specs.Limits.{repeats}
 use Rattle.parser.specs.Parser.{Answer, read}
@@ -26,19 +26,10 @@ use Rattle.parser.specs.declared.parts.Shape.the-variants.{Name, Literal
 use Rattle.parser.specs.declared.parts.Empty.{Empty}
 use Rattle.parser.specs.declared.parts.Empty.the-variants as M
 use Rattle.parser.proofs.Onward.{onward-then, onward-least}
+use Rattle.parser.proofs.Ready.{nodes-each, count-each}
 use Rattle.parser.proofs.Lists.{flat-none, flat-more, flat-snoc, lays-between}
 
 -- ------------------------------------------------------------------ nodes
-
-nodes-each : {A : Type 0} (f : A → Branch) (xs : List A) (bs : Branches) → nodesAll (each f xs bs) ≡ flat (nodesOf f) xs ++ nodesAll bs
-unfolding each nodes flat
-nodes-each f [] bs = refl
-nodes-each f (x ∷ xs) bs = rw (nodes-each f xs bs) (sym (append-assoc (nodes (f x)) (flat (nodesOf f) xs) (nodesAll bs)))
-
-count-each : {A : Type 0} (f : A → Branch) (xs : List A) (bs : Branches) → count (each f xs bs) ≡ length xs + count bs
-unfolding each count
-count-each f [] bs = omega arith
-count-each f (x ∷ xs) bs = let h = count-each f xs bs in omega arith
 
 nodes-all : (es : List (Expression ℕ)) → nodesAll (expressionBranches (expressions es)) ≡ flat (nodesOf expressionBranch) es
 unfolding expressionBranch expressions nodes flat

@@ -31,6 +31,7 @@ use Rattle.parser.proofs.Stored.{stores-then}
 use Rattle.parser.proofs.Onward.{placed-in, start-small, onward-then, onward-least}
 use Rattle.parser.proofs.Lists.{length-snoc, lays-then, lays-between}
 use Rattle.parser.proofs.Ready.{nodes-each, count-each}
+use Rattle.parser.proofs.PartRules.{nodes-literal}
 use Rattle.parser.proofs.Shown.{nodes-repeated, nodes-sequence, several, alone, content-is, shown-within, shown-special, shown-sequence, shown-repeat}
 
 one-text : (y : Node) → length (textsOf (y ∷ [])) ≡ length (y .row .text)
@@ -58,17 +59,7 @@ module _ {D : Answer ℕ (Expression ℕ)} {s : List ℕ} {t u : Current} {i : �
         shown = x;
       }
 
--- ------------------------------------------------------------------ brackets
-
-pub nodes-empty : (p : ℕ) → nodes (expressionBranch (Expression.empty p)) ≡ [] ++ node 34 p [] 1 0 0 ∷ []
-unfolding expressionBranch nodes count encodeAll
-nodes-empty p = refl
-
 -- ------------------------------------------------------------------ specialize
-
-nodes-literal : (p : ℕ) (t : List ℕ) → nodes (expressionBranch (Expression.literal p t)) ≡ node 36 p (encodeAll t) 0 0 0 ∷ []
-unfolding expressionBranch nodes count
-nodes-literal p t = refl
 
 pub nodes-special : (p : ℕ) (k : SpecializeKind) (ps : List (Prop ℕ)) (e f : Expression ℕ) → nodes (expressionBranch (Expression.special p k ps e f))
     ≡ (flat (nodesOf propBranch) ps ++ (nodes (expressionBranch e) ++ nodes (expressionBranch f))) ++ node 31 p [] (specializeValue k) 0 (length ps + 2) ∷ []

@@ -10,7 +10,8 @@ use Rattle.parser.proofs.Stored.{stores-none}
 use Rattle.parser.proofs.Took.{expect-at, expect-not, eat-yes, eat-no, eat-not, expressed, expressed-not}
 use Rattle.parser.proofs.ExpressionRules.{paren-refused, paren-empty, paren-below, paren-close, paren-done}
 use Rattle.parser.proofs.Shown.{yields-within, yields-least, shown-empty}
-use Rattle.parser.proofs.Yielded.{ready-start, yields-over, no-texts, nodes-empty}
+use Rattle.parser.proofs.PartRules.{nodes-empty}
+use Rattle.parser.proofs.Yielded.{ready-start, yields-over, no-texts}
 use Rattle.parser.proofs.expressions.+arguments+arms+braced+inline_rule+inner_at+inner_mark+inner_name+item+items+list+named+parenthesized+parse_expression_choice+parse_expression_inner+parse_expression_sequence+parse_expression_suffix+parts+reference+second+specialize.Proof.Falls.{parenthesized-at, parse-expression-choice-below}
 use Rattle.parser.proofs.expressions.parenthesized.Reads as parenthesized
 use Rattle.parser.proofs.expressions.+arguments+arms+braced+inline_rule+inner_at+inner_mark+inner_name+item+items+list+named+parenthesized+parse_expression_choice+parse_expression_inner+parse_expression_sequence+parse_expression_suffix+parts+reference+second+specialize.Lts-parenthesized as lts

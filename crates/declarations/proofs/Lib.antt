@@ -1,0 +1,4 @@
+pub mod RuleReads
+pub mod BlocksLaws
+pub mod SourceLaws
+pub mod PropLaws

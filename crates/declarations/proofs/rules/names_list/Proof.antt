@@ -1,0 +1,108 @@
+-- `rules::names_list` meets its contract.
+-- Assumes nothing.
+use native.Mathlib.Omega.{arith}
+use mathlib.Core.Path.{refl}
+use Rattle.parser.proofs.Ready.{ready-step, ready-on, listing-small}
+use Rattle.parser.proofs.Lists.{Listing, listing-start}
+use Rattle.parser.proofs.Openings.{item-onward, list-closed, list-refused, item-refused, item-more}
+use Rattle.parser.specs.Parser.{size, untilStep, eat, commaOrNot, parseIdentifier}
+use Rattle.parser.specs.Promise.{stream}
+use Rattle.parser.specs.Storing.{lent, nodesOf}
+use Rattle.parser.specs.declared.props.Comma.the-variants.{May}
+use Rattle.tree.specs.Stored.{nameBranch}
+use borrow.Author.Needs.{needs}
+use Rattle.declarations.proofs.rules.names_list.Statement.{statement}
+use Rattle.declarations.proofs.rules.names_list.Tie as tie
+
+abbrev Inv-loop : tie.InvT-loop
+Inv-loop source kind records₀ n texts₀ x t₀ m₀ y₀ count₀ records texts t m y count = Listing (untilStep (eat "}") commaOrNot (λ _. parseIdentifier)) (nodesOf (nameBranch kind)) source t₀ 0 (lent n records₀ x texts₀) t (lent m records y texts) count
+
+abbrev μ-loop : tie.MeasureT-loop
+μ-loop source kind records₀ n texts₀ x t₀ m₀ y₀ count₀ records texts t m y count = size (stream source t)
+
+loop-holds : tie.Need-loop-holds Inv-loop μ-loop
+loop-holds c = listing-start _ _ _ _ _ _ (c .before .before .before .pre .lies)
+
+opening-requires : tie.Need-opening-requires Inv-loop μ-loop
+opening-requires c κs = (c .loop .inv .onward .lies, omega arith)
+
+enum-known-u : tie.Need-enum-known-u Inv-loop μ-loop
+enum-known-u c = search needs
+
+same-length : tie.Need-same-length Inv-loop μ-loop
+same-length c = omega (arith, c .before .before .before .before .loop .inv .lays .stores .same-words)
+
+same-length-2 : tie.Need-same-length-2 Inv-loop μ-loop
+same-length-2 c = omega (arith, c .before .before .before .before .loop .inv .lays .stores .same-texts)
+
+returns : tie.Need-returns Inv-loop μ-loop
+returns c = list-closed "}" May (λ _. parseIdentifier) (c .before .before .before .before .loop .inv) _ (c .before .before .before .opening .ensures) (c .before .u .given .1) (omega arith)
+
+enum-known-cause : tie.Need-enum-known-cause Inv-loop μ-loop
+enum-known-cause c = search needs
+
+same-length-3 : tie.Need-same-length-3 Inv-loop μ-loop
+same-length-3 c = omega (arith, c .before .before .before .before .loop .inv .lays .stores .same-words)
+
+same-length-4 : tie.Need-same-length-4 Inv-loop μ-loop
+same-length-4 c = omega (arith, c .before .before .before .before .loop .inv .lays .stores .same-texts)
+
+returns-2 : tie.Need-returns-2 Inv-loop μ-loop
+returns-2 c = list-refused "}" May (λ _. parseIdentifier) (c .before .before .before .before .loop .inv) _ (c .before .before .before .opening .ensures) (c .before .cause .given .1)
+
+enum-known-u-2 : tie.Need-enum-known-u-2 Inv-loop μ-loop
+enum-known-u-2 c = search needs
+
+parse-name-requires : tie.Need-parse-name-requires Inv-loop μ-loop
+parse-name-requires c κs = ready-step (ready-on (c .before .before .before .before .before .before .before .before .before .before .pre) (c .before .before .before .before .before .before .loop .inv .onward) (c .before .before .before .before .before .before .loop .inv .lays)) (item-onward "}" (c .before .before .before .before .before .opening .ensures) (c .before .before .before .u2 .given .1))
+
+enum-known-cause-2 : tie.Need-enum-known-cause-2 Inv-loop μ-loop
+enum-known-cause-2 c = search needs
+
+same-length-5 : tie.Need-same-length-5 Inv-loop μ-loop
+same-length-5 c = omega (arith, c .before .before .before .before .before .before .before .before .before .before .before .before .before .before .loop .inv .lays .stores .same-words)
+
+same-length-6 : tie.Need-same-length-6 Inv-loop μ-loop
+same-length-6 c = omega (arith, c .before .before .before .before .before .before .before .before .before .before .before .before .before .before .loop .inv .lays .stores .same-texts)
+
+returns-3 : tie.Need-returns-3 Inv-loop μ-loop
+returns-3 c = item-refused "}" May (λ _. parseIdentifier) (c .before .before .before .before .before .before .before .before .before .before .before .before .before .before .loop .inv) _ (c .before .before .before .before .before .before .before .before .before .before .before .before .before .opening .ensures) (c .before .before .before .before .before .before .before .before .before .before .before .u2 .given .1) _ refl _ _ _ (c .before .before .before .before .before .before .before .parse-name .ensures) (c .before .cause2 .given .1)
+
+enum-known-v : tie.Need-enum-known-v Inv-loop μ-loop
+enum-known-v c = search needs
+
+add-count : tie.Need-add-count Inv-loop μ-loop
+add-count c = omega (arith, listing-small (nameBranch (c .before .before .before .before .before .before .before .before .before .before .before .before .before .before .before .before .before .before .args .kind)) (c .before .before .before .before .before .before .before .before .before .before .before .before .before .before .loop .inv) (c .before .before .before .before .before .before .before .before .before .before .before .before .before .before .before .before .before .before .pre .small) (omega arith))
+
+loop-less : tie.Need-loop-less Inv-loop μ-loop
+loop-less c = omega (arith, item-more "}" May (λ _. parseIdentifier) (c .before .before .before .before .before .before .before .before .before .before .before .before .before .before .loop .inv) _ (c .before .before .before .before .before .before .before .before .before .before .before .before .before .opening .ensures) (c .before .before .before .before .before .before .before .before .before .before .before .u2 .given .1) _ refl _ _ _ (c .before .before .before .before .before .before .before .parse-name .ensures) (c .before .v .given .1) .0 .fewer)
+
+loop-again : tie.Need-loop-again Inv-loop μ-loop
+loop-again c = item-more "}" May (λ _. parseIdentifier) (c .before .before .before .before .before .before .before .before .before .before .before .before .before .before .loop .inv) _ (c .before .before .before .before .before .before .before .before .before .before .before .before .before .opening .ensures) (c .before .before .before .before .before .before .before .before .before .before .before .u2 .given .1) _ refl _ _ _ (c .before .before .before .before .before .before .before .parse-name .ensures) (c .before .v .given .1) .1
+
+pub names-list-spec : {M : Type 1} → statement M
+names-list-spec =
+    tie.close
+    (tie.spec
+    Inv-loop
+    μ-loop
+    loop-holds
+    opening-requires
+    enum-known-u
+    same-length
+    same-length-2
+    returns
+    enum-known-cause
+    same-length-3
+    same-length-4
+    returns-2
+    enum-known-u-2
+    parse-name-requires
+    enum-known-cause-2
+    same-length-5
+    same-length-6
+    returns-3
+    enum-known-v
+    add-count
+    loop-less
+    loop-again)

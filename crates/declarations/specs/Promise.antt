@@ -1,0 +1,46 @@
+-- What the functions on declarations say of what they read.
+-- Assumes nothing.
+use Prim.Native.Nat.{ℕ}
+use mathlib.Core.Path.{_≡_}
+use mathlib.Core.List.{List, [], _∷_}
+use mathlib.Core.Option.{Option}
+use Rattle.error.specs.Causes.{badConflict}
+use Rattle.error.specs.Promise.{causeNumber}
+use Rattle.lexer.specs.Promise.{partOf}
+use Rattle.lexer.specs.Escapes.{decodeString}
+use Rattle.tree.specs.Promise.{precOf}
+use Rattle.tree.specs.Records.{Branch}
+use Rattle.tree.specs.Stored.{declarationBranch}
+use Rattle.tree.specs.Syntax.{PrecKind, LiteralDeclaration, TokenReference, PrecDeclaration, Declaration}
+use Rattle.parser.specs.Parser.{Answer, read, refused, Parser, _>>=_, _>>_, pure, expect, commaOrNot}
+use Rattle.parser.specs.Declarations.{parseLiteral, parseTokenReference, parsePrecKind}
+use Rattle.parser.specs.Promise.{stream}
+use Rattle.parser.specs.Steps.{Onward}
+use Rattle.parser.specs.declared.Current.{Current}
+use Rattle.declarations.specs.declared.blocks.PrecTaken.{PrecTaken}
+use Rattle.declarations.specs.declared.blocks.PrecTaken.the-variants.{Got, Refused}
+
+-- a literal whose text stands in a part of the source
+abbrev pub literalAt : List ℕ → (a e : ℕ) → Parser ℕ (LiteralDeclaration ℕ)
+literalAt s a e = parseLiteral (decodeString (partOf s a e))
+
+-- the two references of a conflict, after its brace
+unfoldable pub conflictPair : Parser ℕ (List (TokenReference ℕ))
+conflictPair = do
+  a ← parseTokenReference badConflict
+  commaOrNot
+  b ← parseTokenReference badConflict
+  expect "}"
+  pure (a ∷ b ∷ [])
+
+-- the kind of a precedence is taken, or there is none
+pub record PrecGot (s : List ℕ) (t : Current) (k : Option PrecKind) (u : Current) : Type 0 where
+  pub gives : parsePrecKind (stream s t) ≡ read k (stream s u)
+  pub onward : Onward s t u 0
+
+abbrev pub TakesPrec : List ℕ → Current → PrecTaken → Type 0
+TakesPrec s t (Got k u) = PrecGot s t (precOf k) u
+TakesPrec s t (Refused c p) = parsePrecKind (stream s t) ≡ refused (causeNumber c) p
+
+abbrev pub precedenceBranch : PrecDeclaration ℕ → Branch
+precedenceBranch x = declarationBranch (Declaration.precedences x)

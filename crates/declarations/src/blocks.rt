@@ -1,0 +1,292 @@
+// Token precedences and conflicts, precedences: `parse_token_precedence`, `parse_token_conflict`, `parse_precedence`.
+use crate::rules;
+use error::Cause;
+use parser::Arrived;
+use parser::Current;
+use parser::Eaten;
+use parser::Taken;
+use parser::props;
+use parser::props::Comma;
+use parser::props::Listed;
+use parser::props::Opened;
+use parser::props::Parsed;
+use parser::store;
+use tree::PrecKind;
+ghost use Prim.Native.Nat.{_+_};
+ghost use Rattle.parser.specs.Promise.{stream, LiesIn};
+ghost use Rattle.parser.specs.Storing.{lent, nodesOf};
+ghost use Rattle.parser.specs.Steps.{Ready, Parses, ParsesList};
+ghost use Rattle.parser.specs.Shapes.{IsToken};
+ghost use Rattle.error.specs.Causes.{badPrecedence};
+ghost use Rattle.tree.specs.Stored.{referenceBranch, tokenPrecBranch, tokenConflictBranch, precItemBranch};
+ghost use Rattle.parser.specs.Parser.{eat, until, commaOrNot};
+ghost use Rattle.parser.specs.Declarations.{parseTokenReference, parseTokenPrecedence, parseTokenConflict, parsePrecItem, parsePrecedence};
+ghost use Rattle.declarations.specs.Promise.{TakesPrec, precedenceBranch, conflictPair};
+
+// The kind of a precedence, and the token after it.
+pub enum PrecTaken {
+    Got(PrecKind, Current),
+    Refused(Cause, usize),
+}
+
+// References up to their brace.
+fn references_list(
+    source: &[u8],
+    token: Current,
+    records: &mut [u32],
+    n: usize,
+    texts: &mut [u8],
+    x: usize,
+) -> Listed
+    requires { ⌜ Ready (now source) token n x ⌝ }
+    ensures { λ r. ⌜ ParsesList (until (eat "}") commaOrNot (λ _. parseTokenReference badPrecedence) (stream (now (source .entry)) token)) (nodesOf referenceBranch) (now (source .entry)) token 1
+        (lent n (now (records .entry)) x (now (texts .entry))) (now (records .exit)) (now (texts .exit)) r ⌝ }
+{
+    let mut t = token;
+    let mut m = n;
+    let mut y = x;
+    let mut count: usize = 0;
+    loop {
+        match props::opening(source, t, 0x7D, Comma::May, count) {
+            Opened::Closed(u) => {
+                return Listed::Done(u, m, y, count);
+            }
+            Opened::Refused(cause, at) => {
+                return Listed::Refused(cause, at);
+            }
+            Opened::Item(u) => match rules::parse_token_reference(
+                source,
+                u,
+                Cause::BadPrecedence,
+                records,
+                m,
+                texts,
+                y,
+            ) {
+                Parsed::Refused(cause, at) => {
+                    return Listed::Refused(cause, at);
+                }
+                Parsed::Done(v, k, z) => {
+                    t = v;
+                    m = k;
+                    y = z;
+                    count += 1;
+                }
+            },
+        }
+    }
+}
+
+// `@precedence` in a token block, at its keyword.
+pub fn parse_token_precedence(
+    source: &[u8],
+    token: Current,
+    records: &mut [u32],
+    n: usize,
+    texts: &mut [u8],
+    x: usize,
+) -> Parsed
+    requires { ⌜ Ready (now source) token n x × IsToken token ⌝ }
+    ensures { λ r. ⌜ Parses (parseTokenPrecedence (stream (now (source .entry)) token)) (nodesOf tokenPrecBranch) (now (source .entry)) token
+        (lent n (now (records .entry)) x (now (texts .entry))) (now (records .exit)) (now (texts .exit)) r ⌝ }
+{
+    match parser::next(source, token) {
+        Arrived::Refused(cause, at) => Parsed::Refused(cause, at),
+        Arrived::At(u) => match parser::expect_punctuation(source, u, 0x7B) {
+            Arrived::Refused(cause, at) => Parsed::Refused(cause, at),
+            Arrived::At(v) => match references_list(source, v, records, n, texts, x) {
+                Listed::Refused(cause, at) => Parsed::Refused(cause, at),
+                Listed::Done(w, m, y, count) => {
+                    let k = store::put_plain(records, m, 9, parser::start(token), 0, count);
+                    Parsed::Done(w, k, y)
+                }
+            },
+        },
+    }
+}
+
+// `@conflict` in a token block, after its brace: two references.
+fn conflict_pair(
+    source: &[u8],
+    token: Current,
+    records: &mut [u32],
+    n: usize,
+    texts: &mut [u8],
+    x: usize,
+) -> Listed
+    requires { ⌜ Ready (now source) token n x ⌝ }
+    ensures { λ r. ⌜ ParsesList (conflictPair (stream (now (source .entry)) token)) (nodesOf referenceBranch) (now (source .entry)) token 2
+        (lent n (now (records .entry)) x (now (texts .entry))) (now (records .exit)) (now (texts .exit)) r ⌝ }
+{
+    match rules::parse_token_reference(source, token, Cause::BadConflict, records, n, texts, x) {
+        Parsed::Refused(cause, at) => Listed::Refused(cause, at),
+        Parsed::Done(u, m, y) => match props::between(source, u, Comma::May) {
+            Arrived::Refused(cause, at) => Listed::Refused(cause, at),
+            Arrived::At(v) => match rules::parse_token_reference(
+                source,
+                v,
+                Cause::BadConflict,
+                records,
+                m,
+                texts,
+                y,
+            ) {
+                Parsed::Refused(cause, at) => Listed::Refused(cause, at),
+                Parsed::Done(w, k, z) => match parser::expect_punctuation(source, w, 0x7D) {
+                    Arrived::Refused(cause, at) => Listed::Refused(cause, at),
+                    Arrived::At(t) => Listed::Done(t, k, z, 2),
+                },
+            },
+        },
+    }
+}
+
+// `@conflict` in a token block, at its keyword.
+pub fn parse_token_conflict(
+    source: &[u8],
+    token: Current,
+    records: &mut [u32],
+    n: usize,
+    texts: &mut [u8],
+    x: usize,
+) -> Parsed
+    requires { ⌜ Ready (now source) token n x × IsToken token ⌝ }
+    ensures { λ r. ⌜ Parses (parseTokenConflict (stream (now (source .entry)) token)) (nodesOf tokenConflictBranch) (now (source .entry)) token
+        (lent n (now (records .entry)) x (now (texts .entry))) (now (records .exit)) (now (texts .exit)) r ⌝ }
+{
+    match parser::next(source, token) {
+        Arrived::Refused(cause, at) => Parsed::Refused(cause, at),
+        Arrived::At(u) => match parser::expect_punctuation(source, u, 0x7B) {
+            Arrived::Refused(cause, at) => Parsed::Refused(cause, at),
+            Arrived::At(v) => match conflict_pair(source, v, records, n, texts, x) {
+                Listed::Refused(cause, at) => Parsed::Refused(cause, at),
+                Listed::Done(w, m, y, count) => {
+                    let k = store::put_plain(records, m, 10, parser::start(token), 0, count);
+                    Parsed::Done(w, k, y)
+                }
+            },
+        },
+    }
+}
+
+// `@left`, `@right`, `@cut` or nothing.
+fn parse_prec_kind(source: &[u8], token: Current) -> PrecTaken
+    requires { ⌜ LiesIn (now source) 0 token ⌝ }
+    ensures { λ r. ⌜ TakesPrec (now (source .entry)) token r ⌝ }
+{
+    match parser::eat_at(source, token, b"left") {
+        Eaten::Refused(cause, at) => PrecTaken::Refused(cause, at),
+        Eaten::Yes(u) => PrecTaken::Got(PrecKind::Left, u),
+        Eaten::No => match parser::eat_at(source, token, b"right") {
+            Eaten::Refused(cause, at) => PrecTaken::Refused(cause, at),
+            Eaten::Yes(u) => PrecTaken::Got(PrecKind::Right, u),
+            Eaten::No => match parser::eat_at(source, token, b"cut") {
+                Eaten::Refused(cause, at) => PrecTaken::Refused(cause, at),
+                Eaten::Yes(u) => PrecTaken::Got(PrecKind::Cut, u),
+                Eaten::No => PrecTaken::Got(PrecKind::Missing, token),
+            },
+        },
+    }
+}
+
+fn parse_prec_item(
+    source: &[u8],
+    token: Current,
+    records: &mut [u32],
+    n: usize,
+    texts: &mut [u8],
+    x: usize,
+) -> Parsed
+    requires { ⌜ Ready (now source) token n x ⌝ }
+    ensures { λ r. ⌜ Parses (parsePrecItem (stream (now (source .entry)) token)) (nodesOf precItemBranch) (now (source .entry)) token
+        (lent n (now (records .entry)) x (now (texts .entry))) (now (records .exit)) (now (texts .exit)) r ⌝ }
+{
+    match parser::parse_identifier(source, token) {
+        Taken::Refused(cause, at) => Parsed::Refused(cause, at),
+        Taken::Got(a, e, u) => match parse_prec_kind(source, u) {
+            PrecTaken::Refused(cause, at) => Parsed::Refused(cause, at),
+            PrecTaken::Got(kind, v) => {
+                let put = store::put_named(
+                    &source[a..e],
+                    21,
+                    parser::start(token),
+                    tree::prec_value(kind),
+                    0,
+                    records,
+                    n,
+                    texts,
+                    x,
+                );
+                Parsed::Done(v, put.n, put.x)
+            }
+        },
+    }
+}
+
+// Items up to their brace.
+fn prec_items_list(
+    source: &[u8],
+    token: Current,
+    records: &mut [u32],
+    n: usize,
+    texts: &mut [u8],
+    x: usize,
+) -> Listed
+    requires { ⌜ Ready (now source) token n x ⌝ }
+    ensures { λ r. ⌜ ParsesList (until (eat "}") commaOrNot (λ _. parsePrecItem) (stream (now (source .entry)) token)) (nodesOf precItemBranch) (now (source .entry)) token 1
+        (lent n (now (records .entry)) x (now (texts .entry))) (now (records .exit)) (now (texts .exit)) r ⌝ }
+{
+    let mut t = token;
+    let mut m = n;
+    let mut y = x;
+    let mut count: usize = 0;
+    loop {
+        match props::opening(source, t, 0x7D, Comma::May, count) {
+            Opened::Closed(u) => {
+                return Listed::Done(u, m, y, count);
+            }
+            Opened::Refused(cause, at) => {
+                return Listed::Refused(cause, at);
+            }
+            Opened::Item(u) => match parse_prec_item(source, u, records, m, texts, y) {
+                Parsed::Refused(cause, at) => {
+                    return Listed::Refused(cause, at);
+                }
+                Parsed::Done(v, k, z) => {
+                    t = v;
+                    m = k;
+                    y = z;
+                    count += 1;
+                }
+            },
+        }
+    }
+}
+
+// `@precedence` at top level, at its keyword.
+pub fn parse_precedence(
+    source: &[u8],
+    token: Current,
+    records: &mut [u32],
+    n: usize,
+    texts: &mut [u8],
+    x: usize,
+) -> Parsed
+    requires { ⌜ Ready (now source) token n x × IsToken token ⌝ }
+    ensures { λ r. ⌜ Parses (parsePrecedence (stream (now (source .entry)) token)) (nodesOf precedenceBranch) (now (source .entry)) token
+        (lent n (now (records .entry)) x (now (texts .entry))) (now (records .exit)) (now (texts .exit)) r ⌝ }
+{
+    match parser::next(source, token) {
+        Arrived::Refused(cause, at) => Parsed::Refused(cause, at),
+        Arrived::At(u) => match parser::expect_punctuation(source, u, 0x7B) {
+            Arrived::Refused(cause, at) => Parsed::Refused(cause, at),
+            Arrived::At(v) => match prec_items_list(source, v, records, n, texts, x) {
+                Listed::Refused(cause, at) => Parsed::Refused(cause, at),
+                Listed::Done(w, m, y, count) => {
+                    let k = store::put_plain(records, m, 20, parser::start(token), 0, count);
+                    Parsed::Done(w, k, y)
+                }
+            },
+        },
+    }
+}
