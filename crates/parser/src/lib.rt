@@ -185,7 +185,7 @@ pub fn at(token: Current) -> Part
 }
 
 // Whether there is a part, and it is this word. The bytes are compared in place.
-fn says(source: &[u8], part: Part, word: &[u8]) -> bool
+pub fn says(source: &[u8], part: Part, word: &[u8]) -> bool
     requires { ⌜ Whole (now source) part ⌝ }
     ensures { λ r. ⌜ Says (now (source .entry)) part (now (word .entry)) r ⌝ }
 {

@@ -1,3 +1,5 @@
+-- `externals::parse_external_prop` meets its contract.
+-- Assumes nothing.
 use borrow.Author.Needs.{needs}
 use native.Mathlib.Omega.{arith}
 use mathlib.Core.Path.{_≡_, refl, sym, _∙_}
@@ -8,124 +10,88 @@ use Rattle.declarations.proofs.SourceLaws.{source-at, source-not, from-
 use Rattle.declarations.proofs.PropLaws.{as-at, as-not, prop-name, prop-as, prop-source, prop-given, name-next, prop-last}
 use Rattle.declarations.proofs.externals.parse_external_prop.Statement.{statement}
 use Rattle.declarations.proofs.externals.parse_external_prop.Tie as tie
-use Rattle.declarations.proofs.externals.parse_external_prop.Reads as reads
-use Rattle.declarations.proofs.externals.parse_external_prop.Lts as lts
-use Rattle.declarations.proofs.externals.parse_as.Reads as parse-as-reads
-use Rattle.declarations.proofs.externals.parse_source.Reads as parse-source-reads
-use Rattle.parser.proofs.parse_identifier.Reads as parse-identifier-reads
-use Rattle.parser.proofs.start.Reads as start-reads
-use Rattle.parser.proofs.store.put_named.Reads as put-named-reads
-use Rattle.parser.proofs.store.put_string.Reads as put-string-reads
 
--- src/externals.rt:67:11
 parse-identifier-requires : tie.Need-parse-identifier-requires
 parse-identifier-requires c κs = search needs
 
--- src/externals.rt:68:24
 enum-known-cause : tie.Need-enum-known-cause
 enum-known-cause c = search needs
 
--- src/externals.rt:69:20
 enum-known-a : tie.Need-enum-known-a
 enum-known-a c = search needs
 
--- src/externals.rt:69:38
 parse-as-requires : tie.Need-parse-as-requires
 parse-as-requires c κs = let d = name-got _ _ (c .before .before .before .before .before .before .before .pre .0 .lies) (c .before .a .given .1) (c .before .before .before .parse-identifier .ensures) in (d .1 .onward .lies, d .0 .part)
 
--- src/externals.rt:70:28
 enum-known-cause-2 : tie.Need-enum-known-cause-2
 enum-known-cause-2 c = search needs
 
--- src/externals.rt:71:24
 enum-known-b : tie.Need-enum-known-b
 enum-known-b c = search needs
 
--- src/externals.rt:71:42
 parse-source-requires : tie.Need-parse-source-requires
 parse-source-requires c κs = as-at _ _ _ _ _ (c .before .before .before .parse-as .ensures) (c .before .b .given .1) .onward .lies
 
--- src/externals.rt:72:32
 enum-known-cause-3 : tie.Need-enum-known-cause-3
 enum-known-cause-3 c = search needs
 
--- src/externals.rt:73:28
 enum-known-c : tie.Need-enum-known-c
 enum-known-c c = search needs
 
--- src/externals.rt:74:49
 sub-put-named : tie.Need-sub-put-named
 sub-put-named c = name-got _ _ (c .before .before .before .before .before .before .before .before .before .before .before .before .before .before .before .pre .0 .lies) (c .before .before .before .before .before .before .before .before .before .a .given .1) (c .before .before .before .before .before .before .before .before .before .before .before .parse-identifier .ensures) .0 .part .forth
 
--- src/externals.rt:74:49
 part-put-named-start : tie.Need-part-put-named-start
 part-put-named-start c = name-got _ _ (c .before .before .before .before .before .before .before .before .before .before .before .before .before .before .before .pre .0 .lies) (c .before .before .before .before .before .before .before .before .before .a .given .1) (c .before .before .before .before .before .before .before .before .before .before .before .parse-identifier .ensures) .0 .part .forth
 
--- src/externals.rt:74:49
 part-put-named-end : tie.Need-part-put-named-end
 part-put-named-end c = name-got _ _ (c .before .before .before .before .before .before .before .before .before .before .before .before .before .before .before .pre .0 .lies) (c .before .before .before .before .before .before .before .before .before .a .given .1) (c .before .before .before .before .before .before .before .before .before .before .before .parse-identifier .ensures) .0 .part .inside
 
--- src/externals.rt:74:68
 start-requires : tie.Need-start-requires
 start-requires c κs = search needs
 
--- src/externals.rt:74:25
 put-named-requires : tie.Need-put-named-requires
 put-named-requires c κs = put-asks (c .before .before .before .before .before .before .before .before .before .before .before .before .before .before .before .before .before .before .before .pre .0) (c .before .before .before .before .before .before .before .before .before .before .before .before .before .before .before .before .before .before .before .pre .0) (c .before .before .start .ensures) (omega arith) (part-short _ (name-got _ _ (c .before .before .before .before .before .before .before .before .before .before .before .before .before .before .before .before .before .before .before .pre .0 .lies) (c .before .before .before .before .before .before .before .before .before .before .before .before .before .a .given .1) (c .before .before .before .before .before .before .before .before .before .before .before .before .before .before .before .parse-identifier .ensures) .0 .part))
 
--- src/externals.rt:75:50
 sub-put-string : tie.Need-sub-put-string
 sub-put-string c = source-at _ _ _ (c .before .before .before .before .before .before .before .before .before .before .before .before .parse-source .ensures) (c .before .before .before .before .before .before .before .before .before .before .c .given .1) .part .forth
 
--- src/externals.rt:75:50
 part-put-string-start : tie.Need-part-put-string-start
 part-put-string-start c = source-at _ _ _ (c .before .before .before .before .before .before .before .before .before .before .before .before .parse-source .ensures) (c .before .before .before .before .before .before .before .before .before .before .c .given .1) .part .forth
 
--- src/externals.rt:75:50
 part-put-string-end : tie.Need-part-put-string-end
 part-put-string-end c = source-at _ _ _ (c .before .before .before .before .before .before .before .before .before .before .before .before .parse-source .ensures) (c .before .before .before .before .before .before .before .before .before .before .c .given .1) .part .inside
 
--- src/externals.rt:75:25
 put-string-requires : tie.Need-put-string-requires
 put-string-requires c κs = let w = name-next (c .before .before .before .before .before .before .before .before .before .before .before .before .before .before .before .before .before .before .before .before .before .before .before .before .before .before .before .pre .0) (part-short _ (name-got _ _ (c .before .before .before .before .before .before .before .before .before .before .before .before .before .before .before .before .before .before .before .before .before .before .before .before .before .before .before .pre .0 .lies) (c .before .before .before .before .before .before .before .before .before .before .before .before .before .before .before .before .before .before .before .before .before .a .given .1) (c .before .before .before .before .before .before .before .before .before .before .before .before .before .before .before .before .before .before .before .before .before .before .before .parse-identifier .ensures) .0 .part)) (c .before .before .before .before .before .before .before .put-named .ensures) in short-asks (c .before .before .before .before .before .before .before .before .before .before .before .before .before .before .before .before .before .before .before .before .before .before .before .before .before .before .before .pre .0 .small) (part-short _ (source-at _ _ _ (c .before .before .before .before .before .before .before .before .before .before .before .before .before .before .before .parse-source .ensures) (c .before .before .before .before .before .before .before .before .before .before .before .before .before .c .given .1) .part)) (omega arith) (omega arith) (let k = w .0 in omega arith) (let k = w .1 in omega arith)
 
--- src/externals.rt:76:48
 sub-put-named-2 : tie.Need-sub-put-named-2
 sub-put-named-2 c = as-at _ _ _ _ _ (c .before .before .before .before .before .before .before .before .before .before .before .before .before .before .before .before .before .before .before .before .before .before .before .before .parse-as .ensures) (c .before .before .before .before .before .before .before .before .before .before .before .before .before .before .before .before .before .before .before .before .before .before .b .given .1) .part .forth
 
--- src/externals.rt:76:48
 part-put-named-start-2 : tie.Need-part-put-named-start-2
 part-put-named-start-2 c = as-at _ _ _ _ _ (c .before .before .before .before .before .before .before .before .before .before .before .before .before .before .before .before .before .before .before .before .before .before .before .before .parse-as .ensures) (c .before .before .before .before .before .before .before .before .before .before .before .before .before .before .before .before .before .before .before .before .before .before .b .given .1) .part .forth
 
--- src/externals.rt:76:48
 part-put-named-end-2 : tie.Need-part-put-named-end-2
 part-put-named-end-2 c = as-at _ _ _ _ _ (c .before .before .before .before .before .before .before .before .before .before .before .before .before .before .before .before .before .before .before .before .before .before .before .before .parse-as .ensures) (c .before .before .before .before .before .before .before .before .before .before .before .before .before .before .before .before .before .before .before .before .before .before .b .given .1) .part .inside
 
--- src/externals.rt:76:25
 put-named-requires-2 : tie.Need-put-named-requires-2
 put-named-requires-2 c κs = let w = prop-last (c .before .before .before .before .before .before .before .before .before .before .before .before .before .before .before .before .before .before .before .before .before .before .before .before .before .before .before .before .before .before .before .before .before .before .before .pre .0) (part-short _ (name-got _ _ (c .before .before .before .before .before .before .before .before .before .before .before .before .before .before .before .before .before .before .before .before .before .before .before .before .before .before .before .before .before .before .before .before .before .before .before .pre .0 .lies) (c .before .before .before .before .before .before .before .before .before .before .before .before .before .before .before .before .before .before .before .before .before .before .before .before .before .before .before .before .before .a .given .1) (c .before .before .before .before .before .before .before .before .before .before .before .before .before .before .before .before .before .before .before .before .before .before .before .before .before .before .before .before .before .before .before .parse-identifier .ensures) .0 .part)) (c .before .before .before .before .before .before .before .before .before .before .before .before .before .before .before .put-named .ensures) (source-at _ _ _ (c .before .before .before .before .before .before .before .before .before .before .before .before .before .before .before .before .before .before .before .before .before .before .before .parse-source .ensures) (c .before .before .before .before .before .before .before .before .before .before .before .before .before .before .before .before .before .before .before .before .before .c .given .1) .part) (c .before .before .before .before .before .before .before .put-string .ensures .0) (c .before .before .before .before .before .before .before .put-string .ensures .1) in short-asks (c .before .before .before .before .before .before .before .before .before .before .before .before .before .before .before .before .before .before .before .before .before .before .before .before .before .before .before .before .before .before .before .before .before .before .before .pre .0 .small) (part-short _ (as-at _ _ _ _ _ (c .before .before .before .before .before .before .before .before .before .before .before .before .before .before .before .before .before .before .before .before .before .before .before .before .before .before .before .parse-as .ensures) (c .before .before .before .before .before .before .before .before .before .before .before .before .before .before .before .before .before .before .before .before .before .before .before .before .before .b .given .1) .part)) (c .before .before .before .before .before .before .before .before .before .before .before .before .before .before .before .before .before .before .before .before .before .before .before .before .before .before .before .before .before .before .before .before .before .before .before .pre .1) (omega arith) (w .0) (w .1)
 
--- src/externals.rt:62:1
 returns : tie.Need-returns
 returns c = prop-name _ _ (taken-not _ _ _ (c .before .before .before .parse-identifier .ensures .takes) (c .before .cause .given .1))
 
--- src/externals.rt:62:1
 returns-2 : tie.Need-returns-2
 returns-2 c = prop-as _ _ (taken-at _ _ _ (c .before .before .before .before .before .before .before .parse-identifier .ensures .takes) (c .before .before .before .before .before .a .given .1)) (as-not _ _ _ _ _ (c .before .before .before .parse-as .ensures) (c .before .cause2 .given .1))
 
--- src/externals.rt:62:1
 returns-3 : tie.Need-returns-3
 returns-3 c = prop-source _ _ (taken-at _ _ _ (c .before .before .before .before .before .before .before .before .before .before .before .parse-identifier .ensures .takes) (c .before .before .before .before .before .before .before .before .before .a .given .1)) (as-at _ _ _ _ _ (c .before .before .before .before .before .before .before .parse-as .ensures) (c .before .before .before .before .before .b .given .1) .gives) (source-not _ _ _ (c .before .before .before .parse-source .ensures) (c .before .cause3 .given .1))
 
--- src/externals.rt:62:1
 same-length : tie.Need-same-length
 same-length c = search needs
 
--- src/externals.rt:62:1
 same-length-2 : tie.Need-same-length-2
 same-length-2 c = search needs
 
--- src/externals.rt:62:1
 returns-4 : tie.Need-returns-4
 returns-4 c = let g = source-at _ _ _ (c .before .before .before .before .before .before .before .before .before .before .before .before .before .before .before .before .before .before .before .before .before .before .before .before .before .before .before .before .parse-source .ensures) (c .before .before .before .before .before .before .before .before .before .before .before .before .before .before .before .before .before .before .before .before .before .before .before .before .before .before .c .given .1) in prop-given _ (c .before .before .before .before .before .before .before .before .before .before .before .before .before .before .before .before .before .before .before .before .before .before .before .before .before .before .before .before .before .before .before .before .before .before .before .before .before .before .before .before .pre .0 .lies) (c .before .before .before .before .before .before .before .before .before .before .before .before .before .before .before .before .before .before .before .before .before .before .before .before .before .before .before .before .before .before .before .before .before .before .before .before .parse-identifier .ensures) (c .before .before .before .before .before .before .before .before .before .before .before .before .before .before .before .before .before .before .before .before .before .before .before .before .before .before .before .before .before .before .before .before .before .before .a .given .1) (as-at _ _ _ _ _ (c .before .before .before .before .before .before .before .before .before .before .before .before .before .before .before .before .before .before .before .before .before .before .before .before .before .before .before .before .before .before .before .before .parse-as .ensures) (c .before .before .before .before .before .before .before .before .before .before .before .before .before .before .before .before .before .before .before .before .before .before .before .before .before .before .before .before .before .before .b .given .1)) g (c .before .before .before .before .before .before .before .before .before .before .before .before .before .before .before .before .before .before .before .before .before .before .before .start .ensures) (source-few (g .part) (c .before .before .before .before .before .before .before .before .before .before .before .before .put-string .ensures .0) (c .before .before .before .before .before .before .before .before .before .before .before .before .put-string .ensures .1)) (c .before .before .before .before .before .before .before .before .before .before .before .before .before .before .before .before .before .before .before .before .put-named .ensures) (c .before .before .before .before .before .before .before .before .before .before .before .before .put-string .ensures .0) (c .before .before .before .before .put-named2 .ensures)
 

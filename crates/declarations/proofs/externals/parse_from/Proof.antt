@@ -1,3 +1,5 @@
+-- `externals::parse_from` meets its contract.
+-- Assumes nothing.
 use borrow.Author.Needs.{needs}
 use native.Mathlib.Omega.{arith}
 use mathlib.Core.Path.{_≡_, refl, sym, _∙_}
@@ -6,86 +8,61 @@ use Rattle.parser.proofs.HeadRules.{short-asks}
 use Rattle.declarations.proofs.SourceLaws.{source-at, source-not, from-name, from-source, from-given, from-small, source-few, source-next}
 use Rattle.declarations.proofs.externals.parse_from.Statement.{statement}
 use Rattle.declarations.proofs.externals.parse_from.Tie as tie
-use Rattle.declarations.proofs.externals.parse_from.Reads as reads
-use Rattle.declarations.proofs.externals.parse_from.Lts as lts
-use Rattle.declarations.proofs.externals.parse_source.Reads as parse-source-reads
-use Rattle.parser.proofs.parse_identifier.Reads as parse-identifier-reads
-use Rattle.parser.proofs.store.put_named.Reads as put-named-reads
-use Rattle.parser.proofs.store.put_string.Reads as put-string-reads
 
--- src/externals.rt:37:11
 parse-identifier-requires : tie.Need-parse-identifier-requires
 parse-identifier-requires c κs = search needs
 
--- src/externals.rt:38:24
 enum-known-cause : tie.Need-enum-known-cause
 enum-known-cause c = search needs
 
--- src/externals.rt:39:20
 enum-known-a : tie.Need-enum-known-a
 enum-known-a c = search needs
 
--- src/externals.rt:39:38
 parse-source-requires : tie.Need-parse-source-requires
 parse-source-requires c κs = name-got _ _ (c .before .before .before .before .before .before .before .pre .0 .lies) (c .before .a .given .1) (c .before .before .before .parse-identifier .ensures) .1 .onward .lies
 
--- src/externals.rt:40:28
 enum-known-cause-2 : tie.Need-enum-known-cause-2
 enum-known-cause-2 c = search needs
 
--- src/externals.rt:41:24
 enum-known-b : tie.Need-enum-known-b
 enum-known-b c = search needs
 
--- src/externals.rt:42:46
 sub-put-string : tie.Need-sub-put-string
 sub-put-string c = source-at _ _ _ (c .before .before .before .parse-source .ensures) (c .before .b .given .1) .part .forth
 
--- src/externals.rt:42:46
 part-put-string-start : tie.Need-part-put-string-start
 part-put-string-start c = source-at _ _ _ (c .before .before .before .parse-source .ensures) (c .before .b .given .1) .part .forth
 
--- src/externals.rt:42:46
 part-put-string-end : tie.Need-part-put-string-end
 part-put-string-end c = source-at _ _ _ (c .before .before .before .parse-source .ensures) (c .before .b .given .1) .part .inside
 
--- src/externals.rt:42:21
 put-string-requires : tie.Need-put-string-requires
 put-string-requires c κs = let w = from-small (c .before .before .before .before .before .before .before .before .before .before .before .before .before .before .pre .0) in short-asks (c .before .before .before .before .before .before .before .before .before .before .before .before .before .before .pre .0 .small) (part-short _ (source-at _ _ _ (c .before .before .before .before .before .before .parse-source .ensures) (c .before .before .before .before .b .given .1) .part)) (omega arith) (omega arith) (let k = w .0 in omega arith) (let k = w .1 in omega arith)
 
--- src/externals.rt:43:44
 sub-put-named : tie.Need-sub-put-named
 sub-put-named c = name-got _ _ (c .before .before .before .before .before .before .before .before .before .before .before .before .before .before .before .before .before .before .before .pre .0 .lies) (c .before .before .before .before .before .before .before .before .before .before .before .before .before .a .given .1) (c .before .before .before .before .before .before .before .before .before .before .before .before .before .before .before .parse-identifier .ensures) .0 .part .forth
 
--- src/externals.rt:43:44
 part-put-named-start : tie.Need-part-put-named-start
 part-put-named-start c = name-got _ _ (c .before .before .before .before .before .before .before .before .before .before .before .before .before .before .before .before .before .before .before .pre .0 .lies) (c .before .before .before .before .before .before .before .before .before .before .before .before .before .a .given .1) (c .before .before .before .before .before .before .before .before .before .before .before .before .before .before .before .parse-identifier .ensures) .0 .part .forth
 
--- src/externals.rt:43:44
 part-put-named-end : tie.Need-part-put-named-end
 part-put-named-end c = name-got _ _ (c .before .before .before .before .before .before .before .before .before .before .before .before .before .before .before .before .before .before .before .pre .0 .lies) (c .before .before .before .before .before .before .before .before .before .before .before .before .before .a .given .1) (c .before .before .before .before .before .before .before .before .before .before .before .before .before .before .before .parse-identifier .ensures) .0 .part .inside
 
--- src/externals.rt:43:21
 put-named-requires : tie.Need-put-named-requires
 put-named-requires c κs = let g = source-at _ _ _ (c .before .before .before .before .before .before .before .before .before .before .before .before .before .before .parse-source .ensures) (c .before .before .before .before .before .before .before .before .before .before .before .before .b .given .1) in let w = source-next (g .part) (c .before .before .before .before .before .before .before .put-string .ensures .0) (c .before .before .before .before .before .before .before .put-string .ensures .1) (c .before .before .before .before .before .before .before .before .before .before .before .before .before .before .before .before .before .before .before .before .before .before .pre .0) in short-asks (c .before .before .before .before .before .before .before .before .before .before .before .before .before .before .before .before .before .before .before .before .before .before .pre .0 .small) (part-short _ (name-got _ _ (c .before .before .before .before .before .before .before .before .before .before .before .before .before .before .before .before .before .before .before .before .before .before .pre .0 .lies) (c .before .before .before .before .before .before .before .before .before .before .before .before .before .before .before .before .a .given .1) (c .before .before .before .before .before .before .before .before .before .before .before .before .before .before .before .before .before .before .parse-identifier .ensures) .0 .part)) (c .before .before .before .before .before .before .before .before .before .before .before .before .before .before .before .before .before .before .before .before .before .before .pre .1) (omega arith) (w .0) (w .1)
 
--- src/externals.rt:32:1
 returns : tie.Need-returns
 returns c = from-name _ (taken-not _ _ _ (c .before .before .before .parse-identifier .ensures .takes) (c .before .cause .given .1))
 
--- src/externals.rt:32:1
 returns-2 : tie.Need-returns-2
 returns-2 c = from-source _ (taken-at _ _ _ (c .before .before .before .before .before .before .before .parse-identifier .ensures .takes) (c .before .before .before .before .before .a .given .1)) (source-not _ _ _ (c .before .before .before .parse-source .ensures) (c .before .cause2 .given .1))
 
--- src/externals.rt:32:1
 same-length : tie.Need-same-length
 same-length c = search needs
 
--- src/externals.rt:32:1
 same-length-2 : tie.Need-same-length-2
 same-length-2 c = search needs
 
--- src/externals.rt:32:1
 returns-3 : tie.Need-returns-3
 returns-3 c = from-given (c .before .before .before .before .before .before .before .before .before .before .before .before .before .before .before .before .before .before .before .before .before .before .before .before .before .before .before .args .kind) _ (c .before .before .before .before .before .before .before .before .before .before .before .before .before .before .before .before .before .before .before .before .before .before .before .before .before .before .before .pre .0 .lies) (c .before .before .before .before .before .before .before .before .before .before .before .before .before .before .before .before .before .before .before .before .before .before .before .parse-identifier .ensures) (c .before .before .before .before .before .before .before .before .before .before .before .before .before .before .before .before .before .before .before .before .before .a .given .1) (source-at _ _ _ (c .before .before .before .before .before .before .before .before .before .before .before .before .before .before .before .before .before .before .before .parse-source .ensures) (c .before .before .before .before .before .before .before .before .before .before .before .before .before .before .before .before .before .b .given .1)) (source-few (source-at _ _ _ (c .before .before .before .before .before .before .before .before .before .before .before .before .before .before .before .before .before .before .before .parse-source .ensures) (c .before .before .before .before .before .before .before .before .before .before .before .before .before .before .before .before .before .b .given .1) .part) (c .before .before .before .before .before .before .before .before .before .before .before .before .put-string .ensures .0) (c .before .before .before .before .before .before .before .before .before .before .before .before .put-string .ensures .1)) (c .before .before .before .before .before .before .before .before .before .before .before .before .put-string .ensures .0) (c .before .before .before .before .put-named .ensures)
 

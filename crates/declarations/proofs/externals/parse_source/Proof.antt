@@ -1,51 +1,38 @@
+-- `externals::parse_source` meets its contract.
+-- Assumes nothing.
 use borrow.Author.Needs.{needs}
 use Rattle.parser.proofs.Stream.{name-whole}
 use Rattle.declarations.proofs.SourceLaws.{word-yes, word-no, word-not, word-onward, source-refused, source-no, source-taken, from-plain}
 use Rattle.declarations.proofs.externals.parse_source.Statement.{statement}
 use Rattle.declarations.proofs.externals.parse_source.Tie as tie
-use Rattle.declarations.proofs.externals.parse_source.Reads as reads
-use Rattle.declarations.proofs.externals.parse_source.Lts as lts
-use Rattle.parser.proofs.eat_identifier_value.Reads as eat-identifier-value-reads
-use Rattle.parser.proofs.expect_string.Reads as expect-string-reads
-use Rattle.parser.proofs.start.Reads as start-reads
 
--- src/externals.rt:24:55
 slice-aggregate-eat-identifier-value : tie.Need-slice-aggregate-eat-identifier-value
 slice-aggregate-eat-identifier-value c = search needs
 
--- src/externals.rt:24:11
 eat-identifier-value-requires : tie.Need-eat-identifier-value-requires
 eat-identifier-value-requires c κs = name-whole _ (c .before .before .args .token) 0 (c .before .before .pre)
 
--- src/externals.rt:25:24
 enum-known-cause : tie.Need-enum-known-cause
 enum-known-cause c = search needs
 
--- src/externals.rt:26:37
 enum-told : tie.Need-enum-told
 enum-told c = search needs
 
--- src/externals.rt:26:61
 start-requires : tie.Need-start-requires
 start-requires c κs = search needs
 
--- src/externals.rt:27:20
 enum-known-u : tie.Need-enum-known-u
 enum-known-u c = search needs
 
--- src/externals.rt:27:26
 expect-string-requires : tie.Need-expect-string-requires
 expect-string-requires c κs = search needs
 
--- src/externals.rt:20:1
 returns : tie.Need-returns
 returns c = source-refused _ _ (word-not "from" _ _ _ (c .before .before .before .eat-identifier-value .ensures) from-plain (c .before .cause .given .1))
 
--- src/externals.rt:20:1
 returns-2 : tie.Need-returns-2
 returns-2 c = rw (c .start .ensures) (source-no _ _ (word-no "from" _ _ _ (c .before .before .before .eat-identifier-value .ensures) from-plain (c .before .enum-told .given .1)))
 
--- src/externals.rt:20:1
 returns-3 : tie.Need-returns-3
 returns-3 c = source-taken _ _ _ (word-yes "from" _ _ _ (c .before .before .before .before .eat-identifier-value .ensures) from-plain (c .before .before .u .given .1)) (word-onward "from" _ _ _ (c .before .before .before .before .eat-identifier-value .ensures) from-plain (c .before .before .before .before .before .before .before .pre) (c .before .before .u .given .1)) (c .expect-string .result) (c .expect-string .ensures)
 

@@ -1,0 +1,129 @@
+-- A block in braces: what was read behind the brace, where nothing is lent and where the groups are stored.
+-- Assumes nothing.
+use Prim.Native.Nat.{ℕ, _+_, _*_, _≤_}
+use native.Mathlib.Omega.{arith}
+use mathlib.Core.Path.{_≡_, refl, ap, sym, _∙_}
+use mathlib.Core.Bool.{true}
+use lib.Dec.{eqb, eqb→eq}
+use mathlib.Core.List.{List, [], _∷_, _++_}
+use lib.ListN.{length, length-append}
+use Rattle.lexer.specs.Tokens.{Tokens}
+use Rattle.characters.specs.Promise.{written}
+use Rattle.characters.proofs.Written.{length-written}
+use Rattle.tree.specs.Records.{Branch, Node, nodes, textsOf}
+use Rattle.parser.specs.Parser.{Answer, read, refused, Parser, andThen, _>>=_, expect, eat, until}
+use Rattle.parser.specs.Declarations.{block}
+use Rattle.parser.specs.Promise.{stream, LiesIn, Expects}
+use Rattle.parser.specs.Storing.{Lent, lent, Stores, flat}
+use Rattle.parser.specs.Steps.{Onward, Lays, betweenBy}
+use Rattle.parser.specs.declared.Current.{Current}
+use Rattle.parser.specs.declared.Arrived.{Arrived}
+use Rattle.parser.specs.declared.Arrived.the-variants.{At}
+use Rattle.parser.specs.declared.props.Listed.{Listed}
+use Rattle.parser.specs.declared.props.Listed.the-variants.{Done, Refused}
+use Rattle.parser.proofs.Onward.{expect-onward, onward-then}
+use Rattle.parser.proofs.Lists.{lays-between}
+use Rattle.parser.proofs.Took.{expect-at}
+use Rattle.reader.specs.Groups.{allOf, groupsOf, Gathers, GathersTo}
+use Rattle.reader.specs.Blocks.{MemberOf, memberOf, membersOf, commaOf, kindOf, branchesOf, kindsOf, Measured}
+use Rattle.reader.specs.declared.blocks.Block.{Block}
+use Rattle.reader.proofs.GroupSizes.{number, nodes-of, bytes-of, in-one, kinds-nonzero}
+use Rattle.reader.proofs.Grouping.{Once, weighs}
+
+pub block-once : (b : Block) → Once (kindOf b) (branchesOf b) (kindsOf b)
+block-once b = record { single = in-one b; positive = kinds-nonzero b }
+
+-- ------------------------------------------------------------------ nothing is lent
+
+pub is-zero : (n : ℕ) → eqb n 0 ≡ true → n ≡ 0
+is-zero n e = eqb→eq n 0 (rw e tt)
+
+pub front-none : (e r : List ℕ) → length e ≡ 0 → e ++ r ≡ r
+front-none [] r h = refl
+front-none (x ∷ e) r h = absurd (omega arith)
+
+pub rest-none : (e r : List ℕ) → length (e ++ r) ≡ 0 → length r ≡ 0
+rest-none e r h = let a = length-append e r in omega arith
+
+both-none : (v w : List ℕ) → length v ≡ 0 → length w ≡ 0 → v ≡ w
+both-none [] [] h k = refl
+both-none [] (x ∷ w) h k = absurd (omega arith)
+both-none (x ∷ v) w h k = absurd (omega arith)
+
+-- nodes of the same sizes are stored alike
+pub stores-sizes : {xs ys : List Node} {n x m y : ℕ} {ws₀ ts₀ ws₁ ts₁ ws ts vs us : List ℕ} → Stores xs (lent n ws₀ x ts₀) (lent m ws₁ y ts₁) → length xs ≡ length ys → length (textsOf xs) ≡ length (textsOf ys)
+    → length ws ≡ 0 → length ts ≡ 0 → length vs ≡ 0 → length us ≡ 0 → Stores ys (lent n ws x ts) (lent m vs y us)
+stores-sizes {ws = ws} {ts} {vs} {us} st p q a b c d =
+    let e = st .words-end in
+    let f = st .texts-end in
+    record {
+      words-end = omega arith;
+      texts-end = omega arith;
+      same-words = omega arith;
+      same-texts = omega arith;
+      records = λ h. both-none vs (written ws _ _) c (length-written _ _ _ ∙ a);
+      bytes = λ h. both-none us (written ts _ _) d (length-written _ _ _ ∙ b);
+    }
+
+-- ------------------------------------------------------------------ behind the brace
+
+module _ (b : Block) (ts : Tokens ℕ) {us : Tokens ℕ} (e : expect "{" ts ≡ read tt us) where
+  pub block-members : block (betweenBy (commaOf b)) (memberOf b) ts ≡ membersOf b us
+  unfolding _>>=_ andThen
+  block-members = rw e
+
+module _ (b : Block) {s : List ℕ} {u v : Current} {a c : Lent} {children : ℕ} (g : Gathers (membersOf b (stream s u)) (allOf (kindOf b) (branchesOf b) 0) s u 1 a v c children) where
+  pub measured-of : Measured b s u v
+  measured-of = let d = g .lays .bound in record { members = g .members; gives = g .gives; onward = g .onward; bound = omega arith; space = g .lays .space }
+
+module _ (b : Block) (s : List ℕ) (t : Current) {u : Current} (l : LiesIn s 0 t) (r : Arrived) (h : Expects s t 0x7B r) (q : r ≡ At u) where
+  abbrev blockOf : Answer ℕ (List (MemberOf b))
+  blockOf = block (betweenBy (commaOf b)) (memberOf b) (stream s t)
+
+  pub brace-onward : Onward s t u 1
+  brace-onward = expect-onward s "{" t u r (omega arith) l h q
+
+  pub block-halted : {c p : ℕ} → membersOf b (stream s u) ≡ refused c p → blockOf ≡ refused c p
+  block-halted e = block-members b (stream s t) (expect-at s "{" t r h q) ∙ e
+
+  -- sizes are enough where nothing is lent
+  pub block-measured : {v : Current} {n x m y children : ℕ} {ws₀ ts₀ e f : List ℕ} (ws ts : List ℕ)
+      → Gathers (membersOf b (stream s u)) (allOf (kindOf b) (branchesOf b) 0) s u 1 (lent n ws₀ x ts₀) v (lent m e y f) children
+      → length ws₀ ≡ 0 → length ts₀ ≡ 0 → length ws ≡ 0 → length ts ≡ 0
+      → Gathers blockOf (groupsOf (kindOf b) (branchesOf b) (kindsOf b)) s t 2 (lent n ws x ts) v (lent m (e ++ ws) y (f ++ ts)) children
+  block-measured {ws₀ = ws₀} {ts₀} {e} {f} ws ts g a₀ c₀ a c =
+      let a₁ = g .lays .stores .same-words in
+      let c₁ = g .lays .stores .same-texts in
+      let a₂ = length-append e ws in
+      let c₂ = length-append f ts in
+      let o = brace-onward in
+      let z = o .ahead in
+      let ms = g .members in
+      let i = weighs (block-once b) nodes-of ms in
+      let j = weighs (block-once b) bytes-of ms in
+      let k = g .lays .bound in
+      let l = g .lays .space in
+      record {
+        members = ms;
+        gives = block-members b (stream s t) (expect-at s "{" t r h q) ∙ g .gives;
+        counted = weighs (block-once b) number ms ∙ g .counted;
+        onward = onward-then o (g .onward);
+        lays = record { stores = stores-sizes (g .lays .stores) (sym i) (sym j) a c (omega arith) (omega arith); bound = omega arith; space = omega arith };
+      }
+
+  -- what was stored behind the brace; e and f are the empty parts that were lent for measuring
+  pub block-gathered : (e f : List ℕ) → length e ≡ 0 → length f ≡ 0 → (n x : ℕ) (ws ts vs us : List ℕ) (k : Listed)
+      → GathersTo (membersOf b (stream s u)) (groupsOf (kindOf b) (branchesOf b) (kindsOf b)) s u 1 (lent n (e ++ ws) x (f ++ ts)) vs us k
+      → GathersTo blockOf (groupsOf (kindOf b) (branchesOf b) (kindsOf b)) s t 2 (lent n ws x ts) vs us k
+  block-gathered e f i j n x ws ts vs us (Done v m y count) g =
+      let o = brace-onward in
+      let z = o .ahead in
+      let y : Lays s u v 0 (flat nodes (groupsOf (kindOf b) (branchesOf b) (kindsOf b) (g .members))) (lent n ws x ts) (lent m vs y us) = rw (front-none e ws i, front-none f ts j) at (g .lays) in
+      record {
+        members = g .members;
+        gives = block-members b (stream s t) (expect-at s "{" t r h q) ∙ g .gives;
+        counted = g .counted;
+        onward = onward-then o (g .onward);
+        lays = lays-between 0 y (omega arith) (omega arith) (omega arith);
+      }
+  block-gathered e f i j n x ws ts vs us (Refused c p) g = block-halted g

@@ -1,0 +1,16 @@
+pub mod RoomyLaws
+pub mod TopLaws
+pub mod MemberLaws
+pub mod GroupPicks
+pub mod GroupSizes
+pub mod Gathered
+pub mod DirectiveLaws
+pub mod Membering
+pub mod Grouping
+pub mod BlockGathered
+pub mod WholeLaws
+pub mod Passing
+pub mod GrammarGroups
+pub mod ParseLaws
+pub mod TopGroups
+pub mod StoreLaws

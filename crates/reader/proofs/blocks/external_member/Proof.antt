@@ -1,0 +1,108 @@
+-- `blocks::external_member` meets its contract.
+-- Assumes nothing.
+use mathlib.Core.Path.{refl}
+use Rattle.basics.specs.Basics.{every}
+use Rattle.tree.specs.Stored.{namedNodeBranch}
+use Rattle.parser.specs.Members.{ExternalMember}
+use Rattle.parser.specs.Declarations.{parseNamedNode}
+use Rattle.parser.specs.Promise.{stream}
+use Rattle.parser.proofs.Stream.{at-whole}
+use Rattle.parser.proofs.Onward.{onward-here}
+use Rattle.parser.proofs.Ready.{ready-step}
+use Rattle.parser.proofs.Openings.{listed, listed-not}
+use Rattle.declarations.proofs.BlocksLaws.{word-yes, word-no, word-not}
+use Rattle.reader.specs.declared.blocks.Block.the-variants.{ExternalTokens}
+use Rattle.reader.proofs.MemberLaws.{joined, external-refused, external-token, external-list, joined-names}
+use borrow.Author.Needs.{needs}
+use Rattle.reader.proofs.blocks.external_member.Statement.{statement}
+use Rattle.reader.proofs.blocks.external_member.Tie as tie
+
+slice-aggregate-eat-at : tie.Need-slice-aggregate-eat-at
+slice-aggregate-eat-at c = search needs
+
+eat-at-requires : tie.Need-eat-at-requires
+eat-at-requires c κs = at-whole _ (c .before .before .before .before .args .token) 0 (c .before .before .before .before .pre .lies)
+
+enum-known-cause : tie.Need-enum-known-cause
+enum-known-cause c = search needs
+
+enum-told : tie.Need-enum-told
+enum-told c = search needs
+
+parse-named-node-requires : tie.Need-parse-named-node-requires
+parse-named-node-requires c κs = search needs
+
+one-requires : tie.Need-one-requires
+one-requires c κs = search needs
+
+enum-known-u : tie.Need-enum-known-u
+enum-known-u c = search needs
+
+parse-names-requires : tie.Need-parse-names-requires
+unfolding every
+parse-names-requires c κs = ready-step (c .before .before .before .before .before .before .before .before .before .before .pre) ((word-yes _ "conflict" (c .before .before .before .before .before .before .before .before .before .before .args .token) refl _ (c .before .before .before .before .before .eat-at .ensures) (c .before .before .before .before .before .before .before .before .before .before .pre .lies) (c .before .before .before .u .given .1)) .1)
+
+enum-known-cause-2 : tie.Need-enum-known-cause-2
+enum-known-cause-2 c = search needs
+
+enum-known-v : tie.Need-enum-known-v
+enum-known-v c = search needs
+
+returns : tie.Need-returns
+unfolding every
+returns c = λ before h. external-refused before _ (word-not _ "conflict" (c .before .before .before .before .before .before .before .before .args .token) refl _ (c .before .before .before .eat-at .ensures) (c .before .cause .given .1))
+
+same-length : tie.Need-same-length
+same-length c = search needs
+
+same-length-2 : tie.Need-same-length-2
+same-length-2 c = search needs
+
+returns-2 : tie.Need-returns-2
+unfolding every
+returns-2 c = joined ExternalTokens _ (parseNamedNode (stream _ _)) (namedNodeBranch) ExternalMember.token 13 _ _ _ _ _ _ (λ before h. external-token before _ (word-no _ "conflict" (c .before .before .before .before .before .before .before .before .before .before .before .before .before .before .before .args .token) refl _ (c .before .before .before .before .before .before .before .before .before .before .eat-at .ensures) (c .before .before .before .before .before .before .before .before .enum-told .given .1))) (λ x. refl) (λ x. refl) (onward-here _ (c .before .before .before .before .before .before .before .before .before .before .before .before .before .before .before .args .token) (c .before .before .before .before .before .before .before .before .before .before .before .before .before .before .before .pre .lies)) (c .before .before .before .before .before .parse-named-node .result) (c .one .ensures) (c .before .before .before .before .before .parse-named-node .ensures)
+
+same-length-3 : tie.Need-same-length-3
+same-length-3 c = search needs
+
+same-length-4 : tie.Need-same-length-4
+same-length-4 c = search needs
+
+returns-3 : tie.Need-returns-3
+unfolding every
+returns-3 c = λ before h. external-list before _ ((word-yes _ "conflict" (c .before .before .before .before .before .before .before .before .before .before .before .before .before .before .before .before .before .before .args .token) refl _ (c .before .before .before .before .before .before .before .before .before .before .before .before .before .eat-at .ensures) (c .before .before .before .before .before .before .before .before .before .before .before .before .before .before .before .before .before .before .pre .lies) (c .before .before .before .before .before .before .before .before .before .before .before .u .given .1)) .0) (listed-not _ _ _ _ _ _ _ _ _ (c .before .before .before .before .before .before .before .parse-names .ensures) (c .before .cause2 .given .1))
+
+same-length-5 : tie.Need-same-length-5
+same-length-5 c = search needs
+
+same-length-6 : tie.Need-same-length-6
+same-length-6 c = search needs
+
+returns-4 : tie.Need-returns-4
+unfolding every
+returns-4 c = let y = word-yes _ "conflict" (c .before .before .before .before .before .before .before .before .before .before .before .before .before .before .before .before .before .before .args .token) refl _ (c .before .before .before .before .before .before .before .before .before .before .before .before .before .eat-at .ensures) (c .before .before .before .before .before .before .before .before .before .before .before .before .before .before .before .before .before .before .pre .lies) (c .before .before .before .before .before .before .before .before .before .before .before .u .given .1) in joined-names (y .0) (y .1) (listed _ _ _ _ _ _ _ _ _ (c .before .before .before .before .before .before .before .parse-names .ensures) (c .before .v .given .1))
+
+pub external-member-spec : {M : Type 1} → statement M
+external-member-spec =
+    tie.close
+    (tie.spec
+    slice-aggregate-eat-at
+    eat-at-requires
+    enum-known-cause
+    enum-told
+    parse-named-node-requires
+    one-requires
+    enum-known-u
+    parse-names-requires
+    enum-known-cause-2
+    enum-known-v
+    returns
+    same-length
+    same-length-2
+    returns-2
+    same-length-3
+    same-length-4
+    returns-3
+    same-length-5
+    same-length-6
+    returns-4)

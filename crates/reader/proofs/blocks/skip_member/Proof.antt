@@ -1,0 +1,90 @@
+-- `blocks::skip_member` meets its contract.
+-- Assumes nothing.
+use mathlib.Core.Path.{refl}
+use Rattle.basics.specs.Basics.{every}
+use Rattle.tree.specs.Stored.{ruleBranch}
+use Rattle.parser.specs.Members.{SkipMember}
+use Rattle.parser.specs.Declarations.{parseRule}
+use Rattle.parser.specs.Promise.{stream}
+use Rattle.parser.proofs.Stream.{at-whole}
+use Rattle.parser.proofs.Onward.{onward-here}
+use Rattle.parser.proofs.Ready.{ready-step}
+use Rattle.declarations.proofs.BlocksLaws.{word-yes, word-no, word-not}
+use Rattle.reader.specs.declared.blocks.Block.the-variants.{Skip}
+use Rattle.reader.proofs.MemberLaws.{joined, skip-refused, skip-rule, skip-top}
+use borrow.Author.Needs.{needs}
+use Rattle.reader.proofs.blocks.skip_member.Statement.{statement}
+use Rattle.reader.proofs.blocks.skip_member.Tie as tie
+
+slice-aggregate-eat-at : tie.Need-slice-aggregate-eat-at
+slice-aggregate-eat-at c = search needs
+
+eat-at-requires : tie.Need-eat-at-requires
+eat-at-requires c κs = at-whole _ (c .before .before .before .before .args .token) 0 (c .before .before .before .before .pre .lies)
+
+enum-known-cause : tie.Need-enum-known-cause
+enum-known-cause c = search needs
+
+enum-told : tie.Need-enum-told
+enum-told c = search needs
+
+parse-rule-requires : tie.Need-parse-rule-requires
+parse-rule-requires c κs = search needs
+
+one-requires : tie.Need-one-requires
+one-requires c κs = search needs
+
+enum-known-u : tie.Need-enum-known-u
+enum-known-u c = search needs
+
+parse-rule-requires-2 : tie.Need-parse-rule-requires-2
+unfolding every
+parse-rule-requires-2 c κs = ready-step (c .before .before .before .before .before .before .before .before .before .before .pre) ((word-yes _ "top" (c .before .before .before .before .before .before .before .before .before .before .args .token) refl _ (c .before .before .before .before .before .eat-at .ensures) (c .before .before .before .before .before .before .before .before .before .before .pre .lies) (c .before .before .before .u .given .1)) .1)
+
+one-requires-2 : tie.Need-one-requires-2
+one-requires-2 c κs = search needs
+
+returns : tie.Need-returns
+unfolding every
+returns c = λ before h. skip-refused before _ (word-not _ "top" (c .before .before .before .before .before .before .before .before .args .token) refl _ (c .before .before .before .eat-at .ensures) (c .before .cause .given .1))
+
+same-length : tie.Need-same-length
+same-length c = search needs
+
+same-length-2 : tie.Need-same-length-2
+same-length-2 c = search needs
+
+returns-2 : tie.Need-returns-2
+unfolding every
+returns-2 c = joined Skip _ (parseRule (stream _ _)) (ruleBranch 3) SkipMember.rule 3 _ _ _ _ _ _ (λ before h. skip-rule before _ (word-no _ "top" (c .before .before .before .before .before .before .before .before .before .before .before .before .before .before .before .args .token) refl _ (c .before .before .before .before .before .before .before .before .before .before .eat-at .ensures) (c .before .before .before .before .before .before .before .before .enum-told .given .1))) (λ x. refl) (λ x. refl) (onward-here _ (c .before .before .before .before .before .before .before .before .before .before .before .before .before .before .before .args .token) (c .before .before .before .before .before .before .before .before .before .before .before .before .before .before .before .pre .lies)) (c .before .before .before .before .before .parse-rule .result) (c .one .ensures) (c .before .before .before .before .before .parse-rule .ensures)
+
+same-length-3 : tie.Need-same-length-3
+same-length-3 c = search needs
+
+same-length-4 : tie.Need-same-length-4
+same-length-4 c = search needs
+
+returns-3 : tie.Need-returns-3
+unfolding every
+returns-3 c = let y = word-yes _ "top" (c .before .before .before .before .before .before .before .before .before .before .before .before .before .before .before .before .args .token) refl _ (c .before .before .before .before .before .before .before .before .before .before .before .eat-at .ensures) (c .before .before .before .before .before .before .before .before .before .before .before .before .before .before .before .before .pre .lies) (c .before .before .before .before .before .before .before .before .before .u .given .1) in joined Skip _ (parseRule (stream _ _)) (ruleBranch 2) SkipMember.topRule 2 _ _ _ _ _ _ (λ before h. skip-top before _ (y .0)) (λ x. refl) (λ x. refl) (y .1) (c .before .before .before .before .before .parse-rule2 .result) (c .one2 .ensures) (c .before .before .before .before .before .parse-rule2 .ensures)
+
+pub skip-member-spec : {M : Type 1} → statement M
+skip-member-spec =
+    tie.close
+    (tie.spec
+    slice-aggregate-eat-at
+    eat-at-requires
+    enum-known-cause
+    enum-told
+    parse-rule-requires
+    one-requires
+    enum-known-u
+    parse-rule-requires-2
+    one-requires-2
+    returns
+    same-length
+    same-length-2
+    returns-2
+    same-length-3
+    same-length-4
+    returns-3)

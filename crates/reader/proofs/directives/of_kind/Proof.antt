@@ -1,0 +1,20 @@
+-- `directives::of_kind` meets its contract.
+-- Assumes nothing.
+use borrow.Author.Needs.{needs}
+use Rattle.reader.proofs.directives.of_kind.Statement.{statement}
+use Rattle.reader.proofs.directives.of_kind.Tie as tie
+
+enum-known-parsed : tie.Need-enum-known-parsed
+enum-known-parsed c = search needs
+
+enum-known-parsed-2 : tie.Need-enum-known-parsed-2
+enum-known-parsed-2 c = search needs
+
+returns : tie.Need-returns
+returns c = rw (c .before .parsed .given .1)
+
+returns-2 : tie.Need-returns-2
+returns-2 c = rw (c .before .parsed2 .given .1)
+
+pub of-kind-spec : {M : Type 1} → statement M
+of-kind-spec = tie.close (tie.spec enum-known-parsed enum-known-parsed-2 returns returns-2)

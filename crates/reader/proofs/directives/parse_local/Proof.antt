@@ -1,0 +1,50 @@
+-- `directives::parse_local` meets its contract.
+-- Assumes nothing.
+use Rattle.parser.specs.Storing.{nodesOf}
+use Rattle.reader.specs.Directives.{localAt, localBranch}
+use Rattle.reader.proofs.RoomyLaws.{roomy-ready, roomy-step}
+use Rattle.reader.proofs.TopLaws.{start-within, past-not, past-onward, parses-past}
+use borrow.Author.Needs.{needs}
+use Rattle.reader.proofs.directives.parse_local.Statement.{statement}
+use Rattle.reader.proofs.directives.parse_local.Tie as tie
+
+next-requires : tie.Need-next-requires
+next-requires c κs = search needs
+
+enum-known-cause : tie.Need-enum-known-cause
+enum-known-cause c = search needs
+
+enum-known-u : tie.Need-enum-known-u
+enum-known-u c = search needs
+
+start-requires : tie.Need-start-requires
+start-requires c κs = search needs
+
+parse-local-tokens-requires : tie.Need-parse-local-tokens-requires
+parse-local-tokens-requires c κs = (roomy-step (c .before .before .before .before .before .before .before .before .before .before .pre .0) (past-onward _ _ _ (c .before .before .before .before .before .before .next .ensures) (c .before .before .before .before .u .given .1) (c .before .before .before .before .before .before .before .before .before .before .pre .1) (c .before .before .before .before .before .before .before .before .before .before .pre .0 .lies)), start-within (roomy-ready (c .before .before .before .before .before .before .before .before .before .before .pre .0)) (c .before .before .start .ensures))
+
+returns : tie.Need-returns
+returns c = past-not _ _ _ (c .before .before .before .next .ensures) _ (c .before .cause .given .1)
+
+same-length : tie.Need-same-length
+same-length c = search needs
+
+same-length-2 : tie.Need-same-length-2
+same-length-2 c = search needs
+
+returns-2 : tie.Need-returns-2
+returns-2 c = parses-past _ _ _ (c .before .before .before .before .before .before .before .before .before .before .before .next .ensures) (c .before .before .before .before .before .before .before .before .before .u .given .1) (c .before .before .before .before .before .before .before .before .before .before .before .before .before .before .before .pre .1) (c .before .before .before .before .before .before .before .before .before .before .before .before .before .before .before .pre .0 .lies) (localAt _) (nodesOf localBranch) _ _ _ (c .before .before .before .before .parse-local-tokens .result) (rw (c .before .before .before .before .before .before .before .start .ensures) at (c .before .before .before .before .parse-local-tokens .ensures))
+
+pub parse-local-spec : {M : Type 1} → statement M
+parse-local-spec =
+    tie.close
+    (tie.spec
+    next-requires
+    enum-known-cause
+    enum-known-u
+    start-requires
+    parse-local-tokens-requires
+    returns
+    same-length
+    same-length-2
+    returns-2)

@@ -1,0 +1,88 @@
+-- `directives::parse_local_tokens` meets its contract.
+-- Assumes nothing.
+use native.Mathlib.Omega.{arith}
+use Rattle.parser.proofs.Stream.{name-whole}
+use Rattle.declarations.proofs.SourceLaws.{word-yes, word-no, word-not, word-onward}
+use Rattle.reader.proofs.RoomyLaws.{roomy-step}
+use Rattle.reader.proofs.Gathered.{gathered, gathered-not}
+use Rattle.reader.proofs.DirectiveLaws.{over-asks, tokens-plain, local-halt, local-no, local-refused, local-given}
+use borrow.Author.Needs.{needs}
+use Rattle.reader.proofs.directives.parse_local_tokens.Statement.{statement}
+use Rattle.reader.proofs.directives.parse_local_tokens.Tie as tie
+
+slice-aggregate-eat-identifier-value : tie.Need-slice-aggregate-eat-identifier-value
+slice-aggregate-eat-identifier-value c = search needs
+
+eat-identifier-value-requires : tie.Need-eat-identifier-value-requires
+eat-identifier-value-requires c κs = name-whole _ (c .before .before .before .before .args .token) 0 (c .before .before .before .before .pre .0 .lies)
+
+enum-known-cause : tie.Need-enum-known-cause
+enum-known-cause c = search needs
+
+enum-told : tie.Need-enum-told
+enum-told c = search needs
+
+start-requires : tie.Need-start-requires
+start-requires c κs = search needs
+
+enum-known-u : tie.Need-enum-known-u
+enum-known-u c = search needs
+
+parse-block-requires : tie.Need-parse-block-requires
+parse-block-requires c κs = roomy-step (c .before .before .before .before .before .before .before .before .before .before .pre .0) (word-onward "tokens" _ _ _ (c .before .before .before .before .before .eat-identifier-value .ensures) tokens-plain (c .before .before .before .before .before .before .before .before .before .before .pre .0 .lies) (c .before .before .before .u .given .1))
+
+enum-known-cause-2 : tie.Need-enum-known-cause-2
+enum-known-cause-2 c = search needs
+
+enum-known-v : tie.Need-enum-known-v
+enum-known-v c = search needs
+
+put-plain-requires : tie.Need-put-plain-requires
+put-plain-requires c κs = over-asks (c .before .before .before .before .before .before .before .before .before .before .before .before .before .before .before .before .before .before .before .pre .0) (word-onward "tokens" _ _ _ (c .before .before .before .before .before .before .before .before .before .before .before .before .before .before .eat-identifier-value .ensures) tokens-plain (c .before .before .before .before .before .before .before .before .before .before .before .before .before .before .before .before .before .before .before .pre .0 .lies) (c .before .before .before .before .before .before .before .before .before .before .before .before .u .given .1)) (gathered _ _ _ _ _ _ _ _ (c .before .before .before .before .before .before .before .before .parse-block .result) (c .before .before .before .before .before .before .before .before .parse-block .ensures) (c .before .before .v .given .1)) (c .before .before .before .before .before .before .before .before .before .before .before .before .before .before .before .before .before .before .before .pre .1) (omega arith)
+
+returns : tie.Need-returns
+returns c = local-halt _ _ _ (word-not "tokens" _ _ _ (c .before .before .before .eat-identifier-value .ensures) tokens-plain (c .before .cause .given .1))
+
+returns-2 : tie.Need-returns-2
+returns-2 c = rw (c .start .ensures) (local-no _ _ _ (word-no "tokens" _ _ _ (c .before .before .before .eat-identifier-value .ensures) tokens-plain (c .before .enum-told .given .1)))
+
+same-length : tie.Need-same-length
+same-length c = search needs
+
+same-length-2 : tie.Need-same-length-2
+same-length-2 c = search needs
+
+returns-3 : tie.Need-returns-3
+returns-3 c = local-refused _ _ _ (word-yes "tokens" _ _ _ (c .before .before .before .before .before .before .before .before .before .before .before .before .before .eat-identifier-value .ensures) tokens-plain (c .before .before .before .before .before .before .before .before .before .before .before .u .given .1)) (gathered-not _ _ _ _ _ _ _ _ (c .before .before .before .before .before .before .before .parse-block .result) (c .before .before .before .before .before .before .before .parse-block .ensures) (c .before .cause2 .given .1))
+
+same-length-3 : tie.Need-same-length-3
+same-length-3 c = search needs
+
+same-length-4 : tie.Need-same-length-4
+same-length-4 c = search needs
+
+returns-4 : tie.Need-returns-4
+returns-4 c = local-given _ _ _ (word-yes "tokens" _ _ _ (c .before .before .before .before .before .before .before .before .before .before .before .before .before .before .before .before .before .eat-identifier-value .ensures) tokens-plain (c .before .before .before .before .before .before .before .before .before .before .before .before .before .before .before .u .given .1)) (word-onward "tokens" _ _ _ (c .before .before .before .before .before .before .before .before .before .before .before .before .before .before .before .before .before .eat-identifier-value .ensures) tokens-plain (c .before .before .before .before .before .before .before .before .before .before .before .before .before .before .before .before .before .before .before .before .before .before .pre .0 .lies) (c .before .before .before .before .before .before .before .before .before .before .before .before .before .before .before .u .given .1)) (gathered _ _ _ _ _ _ _ _ (c .before .before .before .before .before .before .before .before .before .before .before .parse-block .result) (c .before .before .before .before .before .before .before .before .before .before .before .parse-block .ensures) (c .before .before .before .before .before .v .given .1)) (c .before .before .put-plain .ensures)
+
+pub parse-local-tokens-spec : {M : Type 1} → statement M
+parse-local-tokens-spec =
+    tie.close
+    (tie.spec
+    slice-aggregate-eat-identifier-value
+    eat-identifier-value-requires
+    enum-known-cause
+    enum-told
+    start-requires
+    enum-known-u
+    parse-block-requires
+    enum-known-cause-2
+    enum-known-v
+    put-plain-requires
+    returns
+    returns-2
+    same-length
+    same-length-2
+    returns-3
+    same-length-3
+    same-length-4
+    returns-4)

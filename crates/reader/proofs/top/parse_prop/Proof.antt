@@ -1,0 +1,53 @@
+-- `top::parse_prop` meets its contract.
+-- Assumes nothing.
+use mathlib.Core.Bool.{false}
+use Rattle.tree.specs.Stored.{externalPropBranch}
+use Rattle.parser.specs.Members.{externalProp}
+use Rattle.parser.specs.Declarations.{parseExternalProp}
+use Rattle.parser.specs.Storing.{nodesOf}
+use Rattle.reader.specs.Directives.{propAt}
+use Rattle.reader.proofs.TopLaws.{past-not, past-then, past-ready, parses-past, plain-prop, declares-by}
+use borrow.Author.Needs.{needs}
+use Rattle.reader.proofs.top.parse_prop.Statement.{statement}
+use Rattle.reader.proofs.top.parse_prop.Tie as tie
+
+next-requires : tie.Need-next-requires
+next-requires c κs = search needs
+
+enum-known-cause : tie.Need-enum-known-cause
+enum-known-cause c = search needs
+
+enum-known-u : tie.Need-enum-known-u
+enum-known-u c = search needs
+
+parse-external-prop-requires : tie.Need-parse-external-prop-requires
+parse-external-prop-requires c κs = (past-ready _ _ _ (c .before .before .before .before .before .next .ensures) (c .before .before .before .u .given .1) (c .before .before .before .before .before .before .before .before .before .pre .1) (c .before .before .before .before .before .before .before .before .before .pre .0 .lies) (c .before .before .before .before .before .before .before .before .before .pre .0), c .before .before .before .before .before .before .before .before .before .pre .2)
+
+of-kind-requires : tie.Need-of-kind-requires
+of-kind-requires c κs = search needs
+
+returns : tie.Need-returns
+returns c = λ before q. past-not _ _ _ (c .before .before .before .next .ensures) (propAt (c .before .before .before .before .before .before .before .args .start)) (c .before .cause .given .1)
+
+same-length : tie.Need-same-length
+same-length c = search needs
+
+same-length-2 : tie.Need-same-length-2
+same-length-2 c = search needs
+
+returns-2 : tie.Need-returns-2
+returns-2 c = declares-by externalProp _ _ (nodesOf externalPropBranch) 25 false _ _ _ _ _ _ (λ before q. past-then (parseExternalProp (c .before .before .before .before .before .before .before .before .before .before .before .before .before .before .before .args .start)) _ _) (λ x us q. plain-prop x) (c .before .before .before .before .before .parse-external-prop .result) (parses-past _ _ _ (c .before .before .before .before .before .before .before .before .before .before .before .next .ensures) (c .before .before .before .before .before .before .before .before .before .u .given .1) (c .before .before .before .before .before .before .before .before .before .before .before .before .before .before .before .pre .1) (c .before .before .before .before .before .before .before .before .before .before .before .before .before .before .before .pre .0 .lies) (parseExternalProp (c .before .before .before .before .before .before .before .before .before .before .before .before .before .before .before .args .start)) (nodesOf externalPropBranch) _ _ _ (c .before .before .before .before .before .parse-external-prop .result) (c .before .before .before .before .before .parse-external-prop .ensures)) (c .of-kind .result) (c .of-kind .ensures)
+
+pub parse-prop-spec : {M : Type 1} → statement M
+parse-prop-spec =
+    tie.close
+    (tie.spec
+    next-requires
+    enum-known-cause
+    enum-known-u
+    parse-external-prop-requires
+    of-kind-requires
+    returns
+    same-length
+    same-length-2
+    returns-2)

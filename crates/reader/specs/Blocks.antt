@@ -1,0 +1,137 @@
+-- The blocks whose members are stored in groups: what stands in them, in which kinds, and what is stored of it.
+-- Assumes nothing.
+use Prim.Native.Nat.{ℕ, _+_, _*_, _≤_}
+use mathlib.Core.Path.{_≡_}
+use mathlib.Core.Bool.{Bool, true, false}
+use mathlib.Core.List.{List, [], _∷_}
+use lib.ListN.{length}
+use Rattle.basics.specs.Basics.{isEmpty, picked}
+use Rattle.error.specs.Promise.{causeNumber}
+use Rattle.tree.specs.Records.{Branch, nodes}
+use Rattle.tree.specs.Stored.{nameBranch, ruleBranch, tokenPrecBranch, tokenConflictBranch, literalBranch, namedNodeBranch}
+use Rattle.tree.specs.Syntax.{Identifier}
+use Rattle.parser.specs.Parser.{Answer, read, refused, Parser, eat, until}
+use Rattle.parser.specs.Members.{TokenMember, LocalMember, SkipMember, ExternalMember, localFallback}
+use Rattle.parser.specs.Declarations.{parseTokenMember, parseLocalMember, parseExternalMember, parseSkipMember}
+use Rattle.parser.specs.Promise.{stream, LiesIn}
+use Rattle.parser.specs.Storing.{Lent, lent, flat}
+use Rattle.parser.specs.Steps.{placed, Onward, Lays, betweenBy}
+use Rattle.parser.specs.declared.Current.{Current}
+use Rattle.parser.specs.declared.props.Comma.{Comma}
+use Rattle.parser.specs.declared.props.Comma.the-variants.{May, No}
+use Rattle.parser.specs.declared.props.Parsed.{Parsed}
+use Rattle.parser.specs.declared.props.Parsed.the-variants as P
+use Rattle.reader.specs.Groups.{chosen, MeasuredAs}
+use Rattle.reader.specs.declared.blocks.Block.{Block}
+use Rattle.reader.specs.declared.blocks.Block.the-variants.{Tokens, LocalTokens, ExternalTokens, Specializer, Skip}
+use Rattle.reader.specs.declared.blocks.Joined.{Joined}
+use Rattle.reader.specs.declared.blocks.Joined.the-variants.{Done, Refused}
+
+-- what stands in a block, and how it is read
+abbrev pub MemberOf : Block → Type 0
+MemberOf Tokens = TokenMember ℕ
+MemberOf LocalTokens = LocalMember ℕ
+MemberOf ExternalTokens = ExternalMember ℕ
+MemberOf Specializer = ExternalMember ℕ
+MemberOf Skip = SkipMember ℕ
+
+abbrev pub memberOf : (b : Block) → List (MemberOf b) → Parser ℕ (MemberOf b)
+memberOf Tokens = parseTokenMember
+memberOf LocalTokens = parseLocalMember
+memberOf ExternalTokens = parseExternalMember true
+memberOf Specializer = parseExternalMember false
+memberOf Skip = parseSkipMember
+
+-- what stands between two members
+abbrev pub commaOf : Block → Comma
+commaOf Tokens = No
+commaOf LocalTokens = No
+commaOf ExternalTokens = May
+commaOf Specializer = May
+commaOf Skip = No
+
+-- the kinds of its groups, in their order
+abbrev pub kindsOf : Block → List ℕ
+kindsOf Tokens = 9 ∷ 10 ∷ 3 ∷ 11 ∷ []
+kindsOf LocalTokens = 9 ∷ 3 ∷ 13 ∷ []
+kindsOf ExternalTokens = 13 ∷ 17 ∷ []
+kindsOf Specializer = 13 ∷ []
+kindsOf Skip = 2 ∷ 3 ∷ []
+
+-- the kind of a member. In a specializer there are no conflicts
+abbrev pub kindOf : (b : Block) → MemberOf b → ℕ
+kindOf Tokens (TokenMember.precedence x) = 9
+kindOf Tokens (TokenMember.conflict x) = 10
+kindOf Tokens (TokenMember.rule x) = 3
+kindOf Tokens (TokenMember.literal x) = 11
+kindOf LocalTokens (LocalMember.precedence x) = 9
+kindOf LocalTokens (LocalMember.rule x) = 3
+kindOf LocalTokens (LocalMember.fallback x) = 13
+kindOf ExternalTokens (ExternalMember.token x) = 13
+kindOf ExternalTokens (ExternalMember.conflicts ns) = 17
+kindOf Specializer (ExternalMember.token x) = 13
+kindOf Specializer (ExternalMember.conflicts ns) = 17
+kindOf Skip (SkipMember.topRule x) = 2
+kindOf Skip (SkipMember.rule x) = 3
+
+-- a branch for each name
+unfoldable pub nameBranches : (kind : ℕ) → List (Identifier ℕ) → List Branch
+nameBranches k [] = []
+nameBranches k (n ∷ ns) = nameBranch k n ∷ nameBranches k ns
+
+-- the branches of a member: one, or one for each name of a conflict
+abbrev pub branchesOf : (b : Block) → MemberOf b → List Branch
+branchesOf Tokens (TokenMember.precedence x) = tokenPrecBranch x ∷ []
+branchesOf Tokens (TokenMember.conflict x) = tokenConflictBranch x ∷ []
+branchesOf Tokens (TokenMember.rule x) = ruleBranch 3 x ∷ []
+branchesOf Tokens (TokenMember.literal x) = literalBranch x ∷ []
+branchesOf LocalTokens (LocalMember.precedence x) = tokenPrecBranch x ∷ []
+branchesOf LocalTokens (LocalMember.rule x) = ruleBranch 3 x ∷ []
+branchesOf LocalTokens (LocalMember.fallback x) = namedNodeBranch x ∷ []
+branchesOf ExternalTokens (ExternalMember.token x) = namedNodeBranch x ∷ []
+branchesOf ExternalTokens (ExternalMember.conflicts ns) = nameBranches 17 ns
+branchesOf Specializer (ExternalMember.token x) = namedNodeBranch x ∷ []
+branchesOf Specializer (ExternalMember.conflicts ns) = []
+branchesOf Skip (SkipMember.topRule x) = ruleBranch 2 x ∷ []
+branchesOf Skip (SkipMember.rule x) = ruleBranch 3 x ∷ []
+
+-- the members of a block up to its brace
+abbrev pub membersOf : (b : Block) → Parser ℕ (List (MemberOf b))
+membersOf b = until (eat "}") (betweenBy (commaOf b)) (memberOf b)
+
+-- whether an `@else` still makes a fallback: no member before is one
+abbrev pub Free : (b : Block) → List (MemberOf b) → Bool → Type 0
+Free Tokens ms f = Unit {0}
+Free LocalTokens ms f = isEmpty (picked localFallback ms) ≡ f
+Free ExternalTokens ms f = Unit {0}
+Free Specializer ms f = Unit {0}
+Free Skip ms f = Unit {0}
+
+-- what was read is one member of a kind
+abbrev pub oneOf : (kind : ℕ) → Parsed → Joined
+oneOf k (P.Done u n x) = Done u n x 1 k
+oneOf k (P.Refused c p) = Refused c p
+
+-- a member is read whatever stands before it, and its branches are stored if its kind is wanted
+pub record Joins (b : Block) (want : ℕ) (free : Bool) (s : List ℕ) (t : Current) (a : Lent) (u : Current) (c : Lent) (count kind : ℕ) : Type 0 where
+  pub value : MemberOf b
+  pub gives : (before : List (MemberOf b)) → Free b before free → memberOf b before (stream s t) ≡ read value (stream s u)
+  pub onward : Onward s t u 1
+  pub kinds : kindOf b value ≡ kind
+  pub counted : length (chosen (kindOf b) (branchesOf b) want value) ≡ count
+  pub lays : Lays s t u 0 (flat nodes (chosen (kindOf b) (branchesOf b) want value)) a c
+
+abbrev pub JoinsTo : (b : Block) → (want : ℕ) → (free : Bool) → List ℕ → Current → Lent → (words texts : List ℕ) → Joined → Type 0
+JoinsTo b w f s t a ws ts (Done u n x count kind) = Joins b w f s t a u (lent n ws x ts) count kind
+JoinsTo b w f s t a ws ts (Refused c p) = (before : List (MemberOf b)) → Free b before f → memberOf b before (stream s t) ≡ refused (causeNumber c) p
+
+-- the members of a block are measured
+abbrev pub Measured : (b : Block) → List ℕ → (t last : Current) → Type 0
+Measured b s t last = MeasuredAs (membersOf b (stream s t)) (kindOf b) (branchesOf b) 1 s t last
+
+-- where a function may begin that reads a part of the text more than once: the text is short, and half of the room is left
+pub record Roomy (s : List ℕ) (t : Current) (n x : ℕ) : Type 0 where
+  pub lies : LiesIn s 0 t
+  pub small : length s ≤ 0x10000
+  pub room : n + 14 * length s ≤ 0x20000000 + 14 * placed s t
+  pub space : x + 3 * length s ≤ 0x20000000 + 3 * placed s t

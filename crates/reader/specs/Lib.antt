@@ -1,0 +1,4 @@
+pub mod Groups
+pub mod Blocks
+pub mod Directives
+pub mod Whole

@@ -1,0 +1,208 @@
+-- The whole of a grammar file: what is noted in a pass over its declarations, and what is stored of them all.
+-- Assumes nothing.
+use Prim.Native.Nat.{ℕ, _+_, _*_, _≤_, _<_}
+use mathlib.Core.Path.{_≡_}
+use mathlib.Core.Bool.{Bool, true, false, not, _||_}
+use mathlib.Core.List.{List, [], _∷_, _++_}
+use lib.Dec.{eqb}
+use lib.ListN.{length, drop}
+use Rattle.basics.specs.Basics.{if_then_else_, isEmpty, picked, concat, lastOf}
+use Rattle.error.specs.Causes.{recordsFull, textsFull}
+use Rattle.error.specs.Promise.{causeNumber}
+use Rattle.lexer.specs.Tokens.{Tokens}
+use Rattle.lexer.specs.Promise.{tokensAt}
+use Rattle.tree.specs.Records.{nodes, textsOf}
+use Rattle.tree.specs.Stored.{nameBranch, flag, grammarWords, grammarTexts}
+use Rattle.tree.specs.Syntax.{Identifier, GrammarDeclaration}
+use Rattle.parser.specs.Parser.{Answer, read, refused, Parser, _>>=_, pure, kind, isEnd, until, nothing, arrive}
+use Rattle.parser.specs.Members.{Member, dialects, declared, declaredDialects, detects}
+use Rattle.parser.specs.Declarations.{names, hasTop, parseDeclaration, parseGrammar, grammarOf}
+use Rattle.parser.specs.Promise.{stream, startIn, LiesIn}
+use Rattle.parser.specs.Shapes.{IsToken}
+use Rattle.parser.specs.Storing.{Lent, lent, Stores, flat, nodesOf}
+use Rattle.parser.specs.Steps.{placed, Onward, Lays}
+use Rattle.parser.specs.declared.Current.{Current}
+use Rattle.parser.specs.declared.props.Listed.{Listed}
+use Rattle.parser.specs.declared.props.Listed.the-variants as L
+use Rattle.reader.specs.Groups.{chosen, allOf, groupsOf, MeasuredAs}
+use Rattle.reader.specs.Directives.{past, memberKind, memberBranches, memberTop, SeenIs}
+use Rattle.reader.specs.declared.directives.Seen.{Seen}
+use Rattle.reader.specs.declared.directives.Declared.{Declared}
+use Rattle.reader.specs.declared.directives.Declared.the-variants as D
+use Rattle.reader.specs.declared.whole.Noted.{Noted}
+use Rattle.reader.specs.declared.whole.Passed.{Passed}
+use Rattle.reader.specs.declared.whole.Passed.the-variants as P
+use Rattle.reader.specs.declared.whole.Whole.{Whole}
+use Rattle.reader.specs.declared.whole.Whole.the-variants as W
+
+-- the declarations up to the end
+abbrev pub members : Parser ℕ (List (Member ℕ))
+members = until (kind >>= λ k. pure (isEnd k)) nothing parseDeclaration
+
+-- with these kinds before, a declaration is read, and its branches are stored if its kind is wanted
+pub record Picks (want : ℕ) (k : Seen) (s : List ℕ) (t : Current) (a : Lent) (u : Current) (b : Lent) (kind : ℕ) (top : Bool) : Type 0 where
+  pub value : Member ℕ
+  pub gives : (before : List (Member ℕ)) → SeenIs k before → parseDeclaration before (stream s t) ≡ read value (stream s u)
+  pub onward : Onward s t u 1
+  pub kinds : memberKind value ≡ kind
+  pub tops : memberTop value ≡ top
+  pub named : (ns : List (Identifier ℕ)) → value ≡ dialects ns → past names (stream s t) ≡ read ns (stream s u)
+  pub lays : Lays s t u 0 (flat nodes (chosen memberKind memberBranches want value)) a b
+
+abbrev pub PicksTo : (want : ℕ) → Seen → List ℕ → Current → Lent → (words texts : List ℕ) → Declared → Type 0
+PicksTo w k s t a ws ts (D.Done u n x kind top) = Picks w k s t a u (lent n ws x ts) kind top
+PicksTo w k s t a ws ts (D.Refused c p) = (before : List (Member ℕ)) → SeenIs k before → parseDeclaration before (stream s t) ≡ refused (causeNumber c) p
+
+-- ------------------------------------------------------------------ what is noted
+
+-- how many records of its own a declaration of a kind has in the grammar's: dialects are counted apart
+abbrev pub recordsOf : (kind : ℕ) → ℕ
+recordsOf k = if eqb k 1 || eqb k 24 then 0 else 1
+
+-- a declaration of a kind, which begins at the token t, is noted
+abbrev pub noteOf : Noted → (t : Current) → (kind : ℕ) → (top : Bool) → Noted
+noteOf n t k top =
+    record {
+      seen =
+          record {
+            tokens = n .seen .tokens || eqb k 8;
+            context = n .seen .context || eqb k 14;
+            precedence = n .seen .precedence || eqb k 20;
+            skip = n .seen .skip || eqb k 22;
+          };
+      top = n .top || top;
+      delim = n .delim || eqb k 1;
+      listed = n .listed || eqb k 24;
+      last = if eqb k 24 then t else n .last;
+    }
+
+-- the names of the last `@dialects`
+unfoldable pub lastNames : List (Member ℕ) → List (Identifier ℕ)
+lastNames ms = concat (lastOf (picked declaredDialects ms))
+
+-- the names are those that are read at the token last
+pub record NamedAt (s : List ℕ) (last : Current) (ns : List (Identifier ℕ)) : Type 0 where
+  pub rest : Tokens ℕ
+  pub gives : past names (stream s last) ≡ read ns rest
+  pub lies : LiesIn s 0 last
+  pub token : IsToken last
+
+abbrev pub NamedIs : List ℕ → (listed : Bool) → (last : Current) → List (Identifier ℕ) → Type 0
+NamedIs s false last ns = ns ≡ []
+NamedIs s true last ns = NamedAt s last ns
+
+-- what is noted of members
+pub record NotedIs (s : List ℕ) (n : Noted) (ms : List (Member ℕ)) : Type 0 where
+  pub seen : SeenIs (n .seen) ms
+  pub top : hasTop (picked declared ms) ≡ n .top
+  pub delim : not (isEmpty (picked detects ms)) ≡ n .delim
+  pub named : NamedIs s (n .listed) (n .last) (lastNames ms)
+
+-- ------------------------------------------------------------------ a pass
+
+-- all declarations are read, and the branches of those whose kind is wanted are stored
+pub record Passes (want : ℕ) (s : List ℕ) (t : Current) (a : Lent) (u : Current) (b : Lent) (count : ℕ) (n : Noted) : Type 0 where
+  pub found : List (Member ℕ)
+  pub gives : members (stream s t) ≡ read found (stream s u)
+  pub onward : Onward s t u 0
+  pub counted : length (allOf memberKind memberBranches 0 found) ≡ count
+  pub lays : Lays s t u 0 (flat nodes (allOf memberKind memberBranches want found)) a b
+  pub noted : NotedIs s n found
+
+abbrev pub PassesTo : (want : ℕ) → List ℕ → Current → Lent → (words texts : List ℕ) → Passed → Type 0
+PassesTo w s t a ws ts (P.Done u n x count noted) = Passes w s t a u (lent n ws x ts) count noted
+PassesTo w s t a ws ts (P.Refused c p) = members (stream s t) ≡ refused (causeNumber c) p
+
+-- ------------------------------------------------------------------ dialects
+
+-- there are names as is noted
+pub record HasNames (s : List ℕ) (n : Noted) : Type 0 where
+  pub the : List (Identifier ℕ)
+  pub are : NamedIs s (n .listed) (n .last) the
+
+-- the names are stored, so many, with at most two nodes for each byte of the text and three bytes
+pub record Names (ns : List (Identifier ℕ)) (s : List ℕ) (a b : Lent) (count : ℕ) : Type 0 where
+  pub counted : length ns ≡ count
+  pub stores : Stores (flat (nodesOf (nameBranch 24)) ns) a b
+  pub few : length (flat (nodesOf (nameBranch 24)) ns) ≤ 2 * length s
+  pub short : length (textsOf (flat (nodesOf (nameBranch 24)) ns)) ≤ 3 * length s
+
+abbrev pub NamesTo : List ℕ → Noted → Lent → (words texts : List ℕ) → Listed → Type 0
+NamesTo s n a ws ts (L.Done u m x count) = (ns : List (Identifier ℕ)) → NamedIs s (n .listed) (n .last) ns → Names ns s a (lent m ws x ts) count
+NamesTo s n a ws ts (L.Refused c p) = ⊥
+
+-- ------------------------------------------------------------------ groups
+
+-- the kinds of declarations in the order of their groups, and those of all that is stored but dialects
+abbrev pub declaredKinds : List ℕ
+declaredKinds = 2 ∷ 3 ∷ 8 ∷ 12 ∷ 14 ∷ 16 ∷ 18 ∷ 19 ∷ 20 ∷ 22 ∷ 23 ∷ []
+
+abbrev pub storedKinds : List ℕ
+storedKinds = 2 ∷ 3 ∷ 8 ∷ 12 ∷ 14 ∷ 16 ∷ 18 ∷ 19 ∷ 20 ∷ 22 ∷ 23 ∷ 25 ∷ []
+
+-- all declarations are measured
+abbrev pub Surveyed : List ℕ → (t last : Current) → Type 0
+Surveyed s t last = MeasuredAs (members (stream s t)) memberKind memberBranches 0 s t last
+
+-- the groups of declarations are stored
+abbrev pub GroupsTo : List ℕ → Current → Lent → (words texts : List ℕ) → Listed → Type 0
+GroupsTo s t a ws ts (L.Done u n x count) =
+    (ms : List (Member ℕ)) (us : Tokens ℕ) → members (stream s t) ≡ read ms us → Stores (flat nodes (groupsOf memberKind memberBranches declaredKinds ms)) a (lent n ws x ts)
+GroupsTo s t a ws ts (L.Refused c p) = members (stream s t) ≡ refused (causeNumber c) p
+
+-- all is measured, and there is room for it
+pub record Known (s : List ℕ) (t last : Current) (n : Noted) (count : ℕ) (ws ts : List ℕ) : Type 0 where
+  pub arrives : arrive (tokensAt s 0) ≡ read tt (stream s t)
+  pub surveyed : Surveyed s t last
+  pub noted : NotedIs s n (surveyed .members)
+  pub top : n .top ≡ true
+  pub counted : length (allOf memberKind memberBranches 0 (surveyed .members)) + length (lastNames (surveyed .members)) ≡ count
+  pub words-fit : length (grammarWords (grammarOf (startIn t) (surveyed .members))) ≤ length ws
+  pub bytes-fit : length (grammarTexts (grammarOf (startIn t) (surveyed .members))) ≤ length ts
+
+-- ------------------------------------------------------------------ the whole
+
+-- over the front of what was lent; the rest of it is unchanged
+abbrev pub onto : List ℕ → List ℕ → List ℕ
+onto xs lent = xs ++ drop (length xs) lent
+
+-- the tree is stored, and there was room for it
+pub record Read (s ws ts vs us : List ℕ) (words bytes : ℕ) : Type 0 where
+  pub tree : GrammarDeclaration ℕ
+  pub rest : Tokens ℕ
+  pub gives : parseGrammar (tokensAt s 0) ≡ read tree rest
+  pub words-are : words ≡ length (grammarWords tree)
+  pub bytes-are : bytes ≡ length (grammarTexts tree)
+  pub words-fit : words ≤ length ws
+  pub bytes-fit : bytes ≤ length ts
+  pub records : vs ≡ onto (grammarWords tree) ws
+  pub texts : us ≡ onto (grammarTexts tree) ts
+
+-- the tree needs more words than are lent; it needs no more words, but more bytes
+pub record NoWords (s ws : List ℕ) (cause place : ℕ) : Type 0 where
+  pub tree : GrammarDeclaration ℕ
+  pub rest : Tokens ℕ
+  pub gives : parseGrammar (tokensAt s 0) ≡ read tree rest
+  pub over : length ws < length (grammarWords tree)
+  pub cause-is : cause ≡ recordsFull
+  pub place-is : place ≡ 0
+
+pub record NoBytes (s ws ts : List ℕ) (cause place : ℕ) : Type 0 where
+  pub tree : GrammarDeclaration ℕ
+  pub rest : Tokens ℕ
+  pub gives : parseGrammar (tokensAt s 0) ≡ read tree rest
+  pub fits : length (grammarWords tree) ≤ length ws
+  pub over : length ts < length (grammarTexts tree)
+  pub cause-is : cause ≡ textsFull
+  pub place-is : place ≡ 0
+
+-- the definition refuses, or there is no room
+pub data Stopped (s ws ts : List ℕ) (cause place : ℕ) : Type 0 where
+  by-text : parseGrammar (tokensAt s 0) ≡ refused cause place → Stopped s ws ts cause place
+  by-words : NoWords s ws cause place → Stopped s ws ts cause place
+  by-bytes : NoBytes s ws ts cause place → Stopped s ws ts cause place
+
+-- what a text, and words and bytes that are lent, give: the answer, and what they hold afterwards
+abbrev pub Reads : (s words texts wordsAfter textsAfter : List ℕ) → Whole → Type 0
+Reads s ws ts vs us (W.Stored n x) = Read s ws ts vs us n x
+Reads s ws ts vs us (W.Refused c p) = Stopped s ws ts (causeNumber c) p × (vs ≡ ws) × (us ≡ ts)

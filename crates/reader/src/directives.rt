@@ -1,0 +1,350 @@
+// Declarations that hold a block: `parse_tokens`, `parse_local_tokens`, `parse_external_tokens`, `parse_external_specializer`, `@skip`.
+use crate::blocks;
+use crate::blocks::Block;
+use declarations::externals;
+use error::Cause;
+use parser::Arrived;
+use parser::Current;
+use parser::Eaten;
+use parser::Taken;
+use parser::expressions;
+use parser::parts::Expressed;
+use parser::props::Listed;
+use parser::props::Parsed;
+use parser::store;
+ghost use mathlib.Core.Path.{_≡_};
+ghost use Prim.Native.Nat.{_≤_};
+ghost use lib.ListN.{length};
+ghost use Rattle.tree.specs.Stored.{declarationBranch, specializeValue};
+ghost use Rattle.parser.specs.Declarations.{parseTokens, parseExternalTokens, parseExternalSpecializer, parseSkipDeclaration, declares};
+ghost use Rattle.parser.specs.Promise.{stream, startIn};
+ghost use Rattle.parser.specs.Storing.{lent, nodesOf};
+ghost use Rattle.parser.specs.Steps.{Parses};
+ghost use Rattle.parser.specs.Shapes.{IsToken};
+ghost use Rattle.reader.specs.Blocks.{Roomy};
+ghost use Rattle.reader.specs.Directives.{past, localAt, tokensBranch, localBranch, specializeBy, externalSet, setNodes, HoldsTop, Scopes, declaredOf, DeclaresTo};
+
+// How many levels an expression in braces may have.
+const LEVELS: usize = 64;
+
+// Which kinds were seen, of those of which there is at most one.
+pub struct Seen {
+    pub tokens: bool,
+    pub context: bool,
+    pub precedence: bool,
+    pub skip: bool,
+}
+
+// A declaration is stored: the token after it, the words and bytes that are taken, its kind, whether it holds a top rule.
+pub enum Declared {
+    Done(Current, usize, usize, u32, bool),
+    Refused(Cause, usize),
+}
+
+// What was read is a declaration of a kind.
+pub fn of_kind(parsed: Parsed, kind: u32, top: bool) -> Declared
+    ensures { λ r. ⌜ r ≡ declaredOf kind top parsed ⌝ }
+{
+    match parsed {
+        Parsed::Done(u, n, x) => Declared::Done(u, n, x, kind, top),
+        Parsed::Refused(cause, at) => Declared::Refused(cause, at),
+    }
+}
+
+// `@tokens`, at its keyword.
+pub fn parse_tokens(
+    source: &[u8],
+    token: Current,
+    records: &mut [u32],
+    n: usize,
+    texts: &mut [u8],
+    x: usize,
+) -> Parsed
+    requires { ⌜ Roomy (now source) token n x × IsToken token ⌝ }
+    ensures { λ r. ⌜ Parses (parseTokens (stream (now (source .entry)) token)) (nodesOf tokensBranch) (now (source .entry)) token
+        (lent n (now (records .entry)) x (now (texts .entry))) (now (records .exit)) (now (texts .exit)) r ⌝ }
+{
+    match parser::next(source, token) {
+        Arrived::Refused(cause, at) => Parsed::Refused(cause, at),
+        Arrived::At(u) => match blocks::parse_block(
+            source,
+            Block::Tokens,
+            u,
+            records,
+            n,
+            texts,
+            x,
+        ) {
+            Listed::Refused(cause, at) => Parsed::Refused(cause, at),
+            Listed::Done(v, m, y, count) => {
+                let k = store::put_plain(records, m, 8, parser::start(token), 0, count);
+                Parsed::Done(v, k, y)
+            }
+        },
+    }
+}
+
+// `tokens` and its block, after `@local`; it starts at `start`.
+fn parse_local_tokens(
+    source: &[u8],
+    token: Current,
+    start: usize,
+    records: &mut [u32],
+    n: usize,
+    texts: &mut [u8],
+    x: usize,
+) -> Parsed
+    requires { ⌜ Roomy (now source) token n x × (start ≤ length (now source)) ⌝ }
+    ensures { λ r. ⌜ Parses (localAt start (stream (now (source .entry)) token)) (nodesOf localBranch) (now (source .entry)) token
+        (lent n (now (records .entry)) x (now (texts .entry))) (now (records .exit)) (now (texts .exit)) r ⌝ }
+{
+    match parser::eat_identifier_value(source, token, b"tokens") {
+        Eaten::Refused(cause, at) => Parsed::Refused(cause, at),
+        Eaten::No => Parsed::Refused(Cause::UnexpectedToken, parser::start(token)),
+        Eaten::Yes(u) => match blocks::parse_block(
+            source,
+            Block::LocalTokens,
+            u,
+            records,
+            n,
+            texts,
+            x,
+        ) {
+            Listed::Refused(cause, at) => Parsed::Refused(cause, at),
+            Listed::Done(v, m, y, count) => {
+                let k = store::put_plain(records, m, 12, start, 0, count);
+                Parsed::Done(v, k, y)
+            }
+        },
+    }
+}
+
+// `@local tokens`, at its keyword.
+pub fn parse_local(
+    source: &[u8],
+    token: Current,
+    records: &mut [u32],
+    n: usize,
+    texts: &mut [u8],
+    x: usize,
+) -> Parsed
+    requires { ⌜ Roomy (now source) token n x × IsToken token ⌝ }
+    ensures { λ r. ⌜ Parses (past (localAt (startIn token)) (stream (now (source .entry)) token)) (nodesOf localBranch) (now (source .entry)) token
+        (lent n (now (records .entry)) x (now (texts .entry))) (now (records .exit)) (now (texts .exit)) r ⌝ }
+{
+    match parser::next(source, token) {
+        Arrived::Refused(cause, at) => Parsed::Refused(cause, at),
+        Arrived::At(u) => parse_local_tokens(source, u, parser::start(token), records, n, texts, x),
+    }
+}
+
+// The name, the source and the block of an external token set, at the name: 15, the block's members, and a record over them and
+// `before` others.
+fn parse_external_set(
+    source: &[u8],
+    token: Current,
+    block: Block,
+    kind: u32,
+    start: usize,
+    value: u32,
+    before: usize,
+    records: &mut [u32],
+    n: usize,
+    texts: &mut [u8],
+    x: usize,
+) -> Parsed
+    requires { ⌜ Roomy (now source) token n x × (start ≤ length (now source)) × (before ≤ 1) ⌝ }
+    ensures { λ r. ⌜ Parses (externalSet block (stream (now (source .entry)) token)) (setNodes block kind start value before) (now (source .entry)) token
+        (lent n (now (records .entry)) x (now (texts .entry))) (now (records .exit)) (now (texts .exit)) r ⌝ }
+{
+    match parser::parse_identifier(source, token) {
+        Taken::Refused(cause, at) => Parsed::Refused(cause, at),
+        Taken::Got(a, e, u) => match externals::parse_source(source, u) {
+            Taken::Refused(cause, at) => Parsed::Refused(cause, at),
+            Taken::Got(b, f, v) => {
+                let from = store::put_string(&source[b..f], 15, 0, 0, records, n, texts, x);
+                match blocks::parse_block(source, block, v, records, from.n, texts, from.x) {
+                    Listed::Refused(cause, at) => Parsed::Refused(cause, at),
+                    Listed::Done(w, m, y, count) => {
+                        let put = store::put_named(
+                            &source[a..e],
+                            kind,
+                            start,
+                            value,
+                            before + 1 + count,
+                            records,
+                            m,
+                            texts,
+                            y,
+                        );
+                        Parsed::Done(w, put.n, put.x)
+                    }
+                }
+            }
+        },
+    }
+}
+
+// `@external tokens`, at `tokens`; it starts at `start`.
+pub fn parse_external_tokens(
+    source: &[u8],
+    token: Current,
+    start: usize,
+    records: &mut [u32],
+    n: usize,
+    texts: &mut [u8],
+    x: usize,
+) -> Parsed
+    requires { ⌜ Roomy (now source) token n x × IsToken token × (start ≤ length (now source)) ⌝ }
+    ensures { λ r. ⌜ Parses (past (parseExternalTokens start) (stream (now (source .entry)) token)) (nodesOf declarationBranch) (now (source .entry)) token
+        (lent n (now (records .entry)) x (now (texts .entry))) (now (records .exit)) (now (texts .exit)) r ⌝ }
+{
+    match parser::next(source, token) {
+        Arrived::Refused(cause, at) => Parsed::Refused(cause, at),
+        Arrived::At(u) => parse_external_set(
+            source,
+            u,
+            Block::ExternalTokens,
+            16,
+            start,
+            0,
+            0,
+            records,
+            n,
+            texts,
+            x,
+        ),
+    }
+}
+
+// The value of a specializer's record.
+fn specialize_value(extend: bool) -> u32
+    ensures { λ r. ⌜ r ≡ specializeValue (specializeBy extend) ⌝ }
+{
+    if extend {
+        return 1;
+    }
+    2
+}
+
+// `@external extend` or `@external specialize`, at its second word; it starts at `start`.
+pub fn parse_external_specializer(
+    source: &[u8],
+    token: Current,
+    start: usize,
+    extend: bool,
+    records: &mut [u32],
+    n: usize,
+    texts: &mut [u8],
+    x: usize,
+) -> Parsed
+    requires { ⌜ Roomy (now source) token n x × IsToken token × (start ≤ length (now source)) ⌝ }
+    ensures { λ r. ⌜ Parses (past (parseExternalSpecializer start (specializeBy extend)) (stream (now (source .entry)) token)) (nodesOf declarationBranch) (now (source .entry)) token
+        (lent n (now (records .entry)) x (now (texts .entry))) (now (records .exit)) (now (texts .exit)) r ⌝ }
+{
+    match parser::next(source, token) {
+        Arrived::Refused(cause, at) => Parsed::Refused(cause, at),
+        Arrived::At(u) => match expressions::braced(source, LEVELS, u, records, n, texts, x) {
+            Expressed::Refused(cause, at) => Parsed::Refused(cause, at),
+            Expressed::Done(v, m, y, _, _) => parse_external_set(
+                source,
+                v,
+                Block::Specializer,
+                18,
+                start,
+                specialize_value(extend),
+                1,
+                records,
+                m,
+                texts,
+                y,
+            ),
+        },
+    }
+}
+
+// Whether the members of a scoped skip, from its brace on, hold a top rule: a pass that stores nothing.
+fn holds_top(
+    source: &[u8],
+    token: Current,
+    n: usize,
+    x: usize,
+    records: &mut [u32],
+    texts: &mut [u8],
+) -> bool
+    requires { ⌜ Roomy (now source) token n x ⌝ }
+    ensures { λ r. ⌜ HoldsTop (now (source .entry)) token r × (now (records .exit) ≡ now (records .entry)) × (now (texts .exit) ≡ now (texts .entry)) ⌝ }
+{
+    let Arrived::At(u) = parser::expect_punctuation(source, token, 0x7B) else {
+        return false;
+    };
+    let Listed::Done(_, _, _, count) = blocks::members_list(
+        source,
+        Block::Skip,
+        2,
+        u,
+        &mut records[..0],
+        n,
+        &mut texts[..0],
+        x,
+    ) else {
+        return false;
+    };
+    count != 0
+}
+
+// The members of a scoped skip, at its brace, behind its expression.
+fn parse_scoped(
+    source: &[u8],
+    token: Current,
+    start: usize,
+    records: &mut [u32],
+    n: usize,
+    texts: &mut [u8],
+    x: usize,
+) -> Declared
+    requires { ⌜ Roomy (now source) token n x × (start ≤ length (now source)) ⌝ }
+    ensures { λ r. ⌜ Scopes start (now (source .entry)) token
+        (lent n (now (records .entry)) x (now (texts .entry))) (now (records .exit)) (now (texts .exit)) r ⌝ }
+{
+    let top = holds_top(source, token, n, x, records, texts);
+    match blocks::parse_block(source, Block::Skip, token, records, n, texts, x) {
+        Listed::Refused(cause, at) => Declared::Refused(cause, at),
+        Listed::Done(v, m, y, count) => {
+            let k = store::put_plain(records, m, 23, start, 0, 1 + count);
+            Declared::Done(v, k, y, 23, top)
+        }
+    }
+}
+
+// `@skip`, at its keyword: a second main one is refused once the token behind its braces is read.
+pub fn parse_skip(
+    source: &[u8],
+    token: Current,
+    seen: Seen,
+    records: &mut [u32],
+    n: usize,
+    texts: &mut [u8],
+    x: usize,
+) -> Declared
+    requires { ⌜ Roomy (now source) token n x × IsToken token ⌝ }
+    ensures { λ r. ⌜ DeclaresTo (λ before. past (declares (parseSkipDeclaration (startIn token) before)) (stream (now (source .entry)) token)) seen (now (source .entry)) token
+        (lent n (now (records .entry)) x (now (texts .entry))) (now (records .exit)) (now (texts .exit)) r ⌝ }
+{
+    match parser::next(source, token) {
+        Arrived::Refused(cause, at) => Declared::Refused(cause, at),
+        Arrived::At(u) => match expressions::braced(source, LEVELS, u, records, n, texts, x) {
+            Expressed::Refused(cause, at) => Declared::Refused(cause, at),
+            Expressed::Done(v, m, y, p, _) => {
+                if parser::mark(v) == 0x7B {
+                    return parse_scoped(source, v, p, records, m, texts, y);
+                }
+                if seen.skip {
+                    return Declared::Refused(Cause::SecondSkip, parser::start(token));
+                }
+                let k = store::put_plain(records, m, 22, p, 0, 1);
+                Declared::Done(v, k, y, 22, false)
+            }
+        },
+    }
+}
