@@ -1,0 +1,86 @@
+-- `grammar::read` meets its contract: on each way the outcome is that of the definition.
+-- Assumes nothing.
+use mathlib.Core.Path.{sym, _∙_}
+use native.Mathlib.Omega.{arith}
+use Rattle.grammar.specs.Reading.{longest}
+use Rattle.calls.proofs.ReadLaws.{reading-long, reading-ill, read-refused, parsed-stored, parsed-refused}
+use borrow.Author.Needs.{needs}
+use Rattle.calls.proofs.read.Statement.{statement}
+use Rattle.calls.proofs.read.Tie as tie
+
+refuse-requires : tie.Need-refuse-requires
+refuse-requires c κs = search needs
+
+returns : tie.Need-returns
+unfolding longest
+returns c = read-refused _ _ _ (c .refuse .result) (reading-long _ (c .before .if1 .taken)) (c .refuse .ensures)
+
+check-requires : tie.Need-check-requires
+check-requires c κs = search needs
+
+enum-known-at : tie.Need-enum-known-at
+enum-known-at c = search needs
+
+refuse-requires-2 : tie.Need-refuse-requires-2
+refuse-requires-2 c κs = search needs
+
+enum-told : tie.Need-enum-told
+enum-told c = search needs
+
+parse-requires : tie.Need-parse-requires
+parse-requires c κs = omega (arith, c .before .before .before .before .before .if1 .left)
+
+enum-known-n : tie.Need-enum-known-n
+enum-known-n c = search needs
+
+enum-known-cause : tie.Need-enum-known-cause
+enum-known-cause c = search needs
+
+refuse-requires-3 : tie.Need-refuse-requires-3
+refuse-requires-3 c κs = search needs
+
+returns-2 : tie.Need-returns-2
+unfolding longest
+returns-2 c = read-refused _ _ _ (c .refuse2 .result) (reading-ill _ (c .before .before .before .before .before .if1 .left) (sym (c .before .before .before .before .check .ensures) ∙ c .before .before .at .given .1)) (c .refuse2 .ensures)
+
+same-length : tie.Need-same-length
+same-length c = search needs
+
+same-length-2 : tie.Need-same-length-2
+same-length-2 c = search needs
+
+returns-3 : tie.Need-returns-3
+unfolding longest
+returns-3 c = parsed-stored _ _ _ _ _ (c .before .before .before .before .before .before .before .before .before .before .before .before .before .if1 .left) (sym (c .before .before .before .before .before .before .before .before .before .before .before .before .check .ensures) ∙ c .before .before .before .before .before .before .before .before .before .before .enum-told .given .1) (c .before .before .before .before .before .before .before .parse .result) (c .before .before .before .before .before .before .before .parse .ensures) (c .before .n .given .1)
+
+same-length-3 : tie.Need-same-length-3
+same-length-3 c = search needs
+
+same-length-4 : tie.Need-same-length-4
+same-length-4 c = search needs
+
+returns-4 : tie.Need-returns-4
+unfolding longest
+returns-4 c = parsed-refused _ _ _ _ _ (c .before .before .before .before .before .before .before .before .before .before .before .before .before .before .if1 .left) (sym (c .before .before .before .before .before .before .before .before .before .before .before .before .before .check .ensures) ∙ c .before .before .before .before .before .before .before .before .before .before .before .enum-told .given .1) (c .before .before .before .before .before .before .before .before .parse .result) (c .before .before .before .before .before .before .before .before .parse .ensures) (c .refuse3 .result) (c .before .before .cause .given .1) (c .refuse3 .ensures)
+
+pub read-spec : {M : Type 1} → statement M
+read-spec =
+    tie.close
+    (tie.spec
+    refuse-requires
+    returns
+    check-requires
+    enum-known-at
+    refuse-requires-2
+    enum-told
+    parse-requires
+    enum-known-n
+    enum-known-cause
+    refuse-requires-3
+    returns-2
+    same-length
+    same-length-2
+    returns-3
+    same-length-3
+    same-length-4
+    returns-4)
