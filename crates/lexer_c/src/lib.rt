@@ -61,7 +61,7 @@ fn cause_number(cause: Cause) -> u64
 }
 
 // Six words, where they fit.
-fn put(out: &mut [u64], a: u64, b: u64, c: u64, d: u64, e: u64, f: u64)
+pub fn put(out: &mut [u64], a: u64, b: u64, c: u64, d: u64, e: u64, f: u64)
     ensures { λ _. ⌜ now (out .exit) ≡ laid (a ∷ b ∷ c ∷ d ∷ e ∷ f ∷ []) (now (out .entry)) ⌝ }
 {
     if out.len() < 6 {
