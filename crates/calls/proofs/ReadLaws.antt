@@ -16,8 +16,8 @@ use Rattle.lexer.specs.Tokens.{Tokens, tokens}
 use Rattle.lexer.specs.Promise.{tokensAt}
 use Rattle.tree.specs.Syntax.{GrammarDeclaration}
 use Rattle.tree.specs.Stored.{grammarWords, grammarTexts}
-use Rattle.parser.specs.Parser as Parser
-use Rattle.parser.specs.Declarations.{parseGrammar}
+use Rattle.notation.specs.Parser as Parser
+use Rattle.notation.specs.Declarations.{parseGrammar}
 use Rattle.reader.specs.Whole.{Read, Stopped, by-text, by-words, by-bytes, Reads}
 use Rattle.reader.specs.declared.whole.Whole.{Whole}
 use Rattle.reader.specs.declared.whole.Whole.the-variants as W

@@ -20,21 +20,21 @@ use Rattle.tree.specs.Promise.{precOf}
 use Rattle.tree.specs.Records.{Branch, nodes}
 use Rattle.tree.specs.Stored.{each, full, plain, referenceBranch, tokenPrecBranch, tokenConflictBranch, precItemBranch, precValue, declarationBranch}
 use Rattle.tree.specs.Syntax.{Identifier, TokenReference, TokenPrecDeclaration, TokenConflictDeclaration, PrecKind, PrecItem, PrecDeclaration}
-use Rattle.parser.specs.Parser.{Answer, read, refused, Parser, andThen, _>>=_, pure, refuse, choose, here, kind, next, eat, eatIf, eatAt, expect, until, commaOrNot, parseIdentifier}
-use Rattle.parser.specs.Declarations.{parseTokenReference, parseTokenPrecedence, parseTokenConflict, parsePrecKind, parsePrecItem, parsePrecedence}
-use Rattle.parser.specs.Promise.{stream, startIn, endIn, arrival, LiesIn, Lies, EatsAt, Expects, Identifies}
+use Rattle.notation.specs.Parser.{Answer, read, refused, Parser, andThen, _>>=_, pure, refuse, choose, here, kind, next, eat, eatIf, eatAt, expect, until, commaOrNot, parseIdentifier}
+use Rattle.notation.specs.Declarations.{parseTokenReference, parseTokenPrecedence, parseTokenConflict, parsePrecKind, parsePrecItem, parsePrecedence}
+use Rattle.tokens.specs.Promise.{stream, startIn, endIn, arrival, LiesIn, Lies, EatsAt, Expects, Identifies}
 use Rattle.parser.specs.Storing.{Lent, lent, Stores, StoresPlain, node, flat, nodesOf}
 use Rattle.parser.specs.Steps.{Onward, Ready, Gives, Lists, Separates}
 use Rattle.parser.specs.Shapes.{IsToken}
-use Rattle.parser.specs.declared.Current.{Current}
-use Rattle.parser.specs.declared.Current.the-variants.{Token, End}
-use Rattle.parser.specs.declared.Arrived.{Arrived}
-use Rattle.parser.specs.declared.Arrived.the-variants.{At, Refused}
-use Rattle.parser.specs.declared.Eaten.{Eaten}
-use Rattle.parser.specs.declared.Eaten.the-variants as E
-use Rattle.parser.specs.declared.Taken.{Taken}
-use Rattle.parser.specs.declared.Taken.the-variants as G
-use Rattle.parser.proofs.Stream.{start-of, at-of}
+use Rattle.tokens.specs.declared.Current.{Current}
+use Rattle.tokens.specs.declared.Current.the-variants.{Token, End}
+use Rattle.tokens.specs.declared.Arrived.{Arrived}
+use Rattle.tokens.specs.declared.Arrived.the-variants.{At, Refused}
+use Rattle.tokens.specs.declared.Eaten.{Eaten}
+use Rattle.tokens.specs.declared.Eaten.the-variants as E
+use Rattle.tokens.specs.declared.Taken.{Taken}
+use Rattle.tokens.specs.declared.Taken.the-variants as G
+use Rattle.tokens.proofs.Stream.{start-of, at-of}
 use Rattle.parser.proofs.Onward.{if-true, onward-then, onward-least, next-onward, expect-onward}
 use Rattle.parser.proofs.Lists.{flat-none, flat-more, lays-then, lays-between}
 use Rattle.parser.proofs.Ready.{ready-step, ready-on, put-plain-asks, lists-small, name-got, lays-leaf, lays-parent, arrived-at, taken-at, nodes-leaf, nodes-over}

@@ -18,14 +18,14 @@ use Rattle.lexer.specs.Escapes.{decodeString}
 use Rattle.tree.specs.Syntax.{Identifier, ExternalPropDeclaration}
 use Rattle.tree.specs.Records.{nodes, count, textsOf}
 use Rattle.tree.specs.Stored.{externalPropBranch}
-use Rattle.parser.specs.Parser.{Answer, read, refused, andThen, _>>=_, pure, choose, eatName, parseIdentifier}
-use Rattle.parser.specs.Declarations.{parseSource, parseExternalProp}
-use Rattle.parser.specs.Promise.{stream, startIn, LiesIn, Identifies}
+use Rattle.notation.specs.Parser.{Answer, read, refused, andThen, _>>=_, pure, choose, eatName, parseIdentifier}
+use Rattle.notation.specs.Declarations.{parseSource, parseExternalProp}
+use Rattle.tokens.specs.Promise.{stream, startIn, LiesIn, Identifies}
 use Rattle.parser.specs.Storing.{Lent, lent, Stores, node, nodesOf}
 use Rattle.parser.specs.Steps.{Onward, Ready, Gives}
-use Rattle.parser.specs.declared.Current.{Current}
-use Rattle.parser.specs.declared.Taken.{Taken}
-use Rattle.parser.specs.declared.Taken.the-variants as G
+use Rattle.tokens.specs.declared.Current.{Current}
+use Rattle.tokens.specs.declared.Taken.{Taken}
+use Rattle.tokens.specs.declared.Taken.the-variants as G
 use Rattle.parser.proofs.Onward.{onward-here, onward-then, onward-least}
 use Rattle.parser.proofs.Ready.{Short, part-short, cut-length, name-got, taken-at, taken-not}
 use Rattle.parser.proofs.Stored.{stores-then}

@@ -14,25 +14,25 @@ use Rattle.lexer.specs.Escapes.{decodeString}
 use Rattle.tree.specs.Records.{Row, branch, Branches, []ᴮ, _∷ᴮ_, count, Node, nodes}
 use Rattle.tree.specs.Stored.{named, each, propBranch, nameBranch, expressionBranch, ruleBranch, referenceBranch, literalBranch, namedNodeBranch}
 use Rattle.tree.specs.Syntax.{Identifier, Prop, Expression, TokenReference, startOf}
-use Rattle.parser.specs.Limits.{levels}
-use Rattle.parser.specs.Parser.{read, refused, Parser, andThen, _>>=_, pure, refuse, here, next, eat, expect, until, parseIdentifier}
-use Rattle.parser.specs.Expressions.{parseProps, referenceOf, parseBracedExpression, parseExpressionInner, choiceAt}
-use Rattle.parser.specs.Declarations.{parseRule, block, referenceBy, parseTokenReference, parseLiteral, parseNamedNode}
-use Rattle.parser.specs.Promise.{stream, startIn, endIn, stringOf, arrival, LiesIn, Lies, Expects, Identifies}
+use Rattle.notation.specs.Limits.{levels}
+use Rattle.notation.specs.Parser.{read, refused, Parser, andThen, _>>=_, pure, refuse, here, next, eat, expect, until, parseIdentifier}
+use Rattle.notation.specs.Expressions.{parseProps, referenceOf, parseBracedExpression, parseExpressionInner, choiceAt}
+use Rattle.notation.specs.Declarations.{parseRule, block, referenceBy, parseTokenReference, parseLiteral, parseNamedNode}
+use Rattle.tokens.specs.Promise.{stream, startIn, endIn, stringOf, arrival, LiesIn, Lies, Expects, Identifies}
 use Rattle.parser.specs.Storing.{Lent, lent, Stores, node, flat, nodesOf}
 use Rattle.parser.specs.Steps.{Onward, Ready, Gives, Lists, ParsesList}
 use Rattle.parser.specs.Shapes.{Yields, YieldsBraced, Head, parseHead, Heads}
-use Rattle.parser.specs.declared.Current.{Current}
-use Rattle.parser.specs.declared.Arrived.{Arrived}
-use Rattle.parser.specs.declared.Arrived.the-variants.{At, Refused}
-use Rattle.parser.specs.declared.Taken.{Taken}
-use Rattle.parser.specs.declared.Taken.the-variants as G
-use Rattle.parser.specs.declared.Part.the-variants.{From}
+use Rattle.tokens.specs.declared.Current.{Current}
+use Rattle.tokens.specs.declared.Arrived.{Arrived}
+use Rattle.tokens.specs.declared.Arrived.the-variants.{At, Refused}
+use Rattle.tokens.specs.declared.Taken.{Taken}
+use Rattle.tokens.specs.declared.Taken.the-variants as G
+use Rattle.tokens.specs.declared.Part.the-variants.{From}
 use Rattle.parser.specs.declared.props.Listed.{Listed}
 use Rattle.parser.specs.declared.props.Listed.the-variants as L
 use Rattle.parser.specs.declared.parts.Shape.{Shape}
 use Rattle.parser.specs.declared.parts.Shape.the-variants.{Name, Literal, Repeat, Blank, Other}
-use Rattle.parser.proofs.Stream.{start-of}
+use Rattle.tokens.proofs.Stream.{start-of}
 use Rattle.parser.proofs.Onward.{placed-in, onward-then, onward-least, expect-onward}
 use Rattle.parser.proofs.Lists.{lays-then, lays-between}
 use Rattle.parser.proofs.Ready.{name-got, next-got, got-less, string-in, stored-text, lays-parent, arrived-at, taken-at, nodes-each, count-each, nodes-over, flat-length}

@@ -19,20 +19,20 @@ use Rattle.lexer.specs.Promise.{partOf, isPlain}
 use Rattle.lexer.specs.Escapes.{decodeString}
 use Rattle.tree.specs.Syntax.{Identifier}
 use Rattle.tree.specs.Records.{nodes, count, textsOf}
-use Rattle.parser.specs.Parser.{read, refused, andThen, _>>=_, pure, kindOf, kind, nameIn, says, refuseHere, next, eatIf, eatName, must, expectName, expectString, parseIdentifier}
-use Rattle.parser.specs.Declarations.{parseSource}
-use Rattle.parser.specs.Promise.{stream, startIn, LiesIn, EatsName, Identifies, TakesString}
+use Rattle.notation.specs.Parser.{read, refused, andThen, _>>=_, pure, kindOf, kind, nameIn, says, refuseHere, next, eatIf, eatName, must, expectName, expectString, parseIdentifier}
+use Rattle.notation.specs.Declarations.{parseSource}
+use Rattle.tokens.specs.Promise.{stream, startIn, LiesIn, EatsName, Identifies, TakesString}
 use Rattle.parser.specs.Storing.{Lent, lent, Stores, node, nodesOf}
 use Rattle.parser.specs.Steps.{Onward, Ready, Gives}
 use Rattle.parser.specs.Shapes.{IsToken}
-use Rattle.parser.specs.declared.Current.{Current}
-use Rattle.parser.specs.declared.Current.the-variants.{Token, End}
-use Rattle.parser.specs.declared.Arrived.the-variants.{At}
-use Rattle.parser.specs.declared.Eaten.{Eaten}
-use Rattle.parser.specs.declared.Eaten.the-variants as E
-use Rattle.parser.specs.declared.Taken.{Taken}
-use Rattle.parser.specs.declared.Taken.the-variants as G
-use Rattle.parser.proofs.Stream.{start-of}
+use Rattle.tokens.specs.declared.Current.{Current}
+use Rattle.tokens.specs.declared.Current.the-variants.{Token, End}
+use Rattle.tokens.specs.declared.Arrived.the-variants.{At}
+use Rattle.tokens.specs.declared.Eaten.{Eaten}
+use Rattle.tokens.specs.declared.Eaten.the-variants as E
+use Rattle.tokens.specs.declared.Taken.{Taken}
+use Rattle.tokens.specs.declared.Taken.the-variants as G
+use Rattle.tokens.proofs.Stream.{start-of}
 use Rattle.parser.proofs.Onward.{if-true, next-onward, onward-then, onward-least, placed-in}
 use Rattle.parser.proofs.Ready.{part-short, cut-length, stored-text, name-got, string-got, taken-at, taken-not}
 use Rattle.parser.proofs.Stored.{stores-then}

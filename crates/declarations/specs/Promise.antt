@@ -12,11 +12,11 @@ use Rattle.tree.specs.Promise.{precOf}
 use Rattle.tree.specs.Records.{Branch}
 use Rattle.tree.specs.Stored.{declarationBranch}
 use Rattle.tree.specs.Syntax.{PrecKind, LiteralDeclaration, TokenReference, PrecDeclaration, Declaration}
-use Rattle.parser.specs.Parser.{Answer, read, refused, Parser, _>>=_, _>>_, pure, expect, commaOrNot}
-use Rattle.parser.specs.Declarations.{parseLiteral, parseTokenReference, parsePrecKind}
-use Rattle.parser.specs.Promise.{stream}
+use Rattle.notation.specs.Parser.{Answer, read, refused, Parser, _>>=_, _>>_, pure, expect, commaOrNot}
+use Rattle.notation.specs.Declarations.{parseLiteral, parseTokenReference, parsePrecKind}
+use Rattle.tokens.specs.Promise.{stream}
 use Rattle.parser.specs.Steps.{Onward}
-use Rattle.parser.specs.declared.Current.{Current}
+use Rattle.tokens.specs.declared.Current.{Current}
 use Rattle.declarations.specs.declared.blocks.PrecTaken.{PrecTaken}
 use Rattle.declarations.specs.declared.blocks.PrecTaken.the-variants.{Got, Refused}
 

@@ -9,13 +9,13 @@ use Rattle.lexer.specs.Promise.{partOf}
 use Rattle.lexer.specs.Escapes.{decodeString}
 use Rattle.tree.specs.Records.{Branch, branch, []ᴮ, _∷ᴮ_}
 use Rattle.tree.specs.Stored.{named, sourceBranch}
-use Rattle.parser.specs.Parser.{read, refused, Parser, _>>=_, pure, choose, eatName, parseIdentifier}
-use Rattle.parser.specs.Declarations.{parseSource}
-use Rattle.parser.specs.Promise.{stream}
+use Rattle.notation.specs.Parser.{read, refused, Parser, _>>=_, pure, choose, eatName, parseIdentifier}
+use Rattle.notation.specs.Declarations.{parseSource}
+use Rattle.tokens.specs.Promise.{stream}
 use Rattle.parser.specs.Steps.{placed, Onward}
-use Rattle.parser.specs.declared.Current.{Current}
-use Rattle.parser.specs.declared.Taken.{Taken}
-use Rattle.parser.specs.declared.Taken.the-variants.{Got, Refused}
+use Rattle.tokens.specs.declared.Current.{Current}
+use Rattle.tokens.specs.declared.Taken.{Taken}
+use Rattle.tokens.specs.declared.Taken.the-variants.{Got, Refused}
 
 -- a source string stands in a part of the text between the tokens t and u
 pub record GotSource (s : List ℕ) (t : Current) (a e : ℕ) (u : Current) : Type 0 where

@@ -1,26 +1,26 @@
 // Token precedences and conflicts, precedences: `parse_token_precedence`, `parse_token_conflict`, `parse_precedence`.
 use crate::rules;
 use error::Cause;
-use parser::Arrived;
-use parser::Current;
-use parser::Eaten;
-use parser::Taken;
 use parser::props;
 use parser::props::Comma;
 use parser::props::Listed;
 use parser::props::Opened;
 use parser::props::Parsed;
 use parser::store;
+use tokens::Arrived;
+use tokens::Current;
+use tokens::Eaten;
+use tokens::Taken;
 use tree::PrecKind;
 ghost use Prim.Native.Nat.{_+_};
-ghost use Rattle.parser.specs.Promise.{stream, LiesIn};
+ghost use Rattle.tokens.specs.Promise.{stream, LiesIn};
 ghost use Rattle.parser.specs.Storing.{lent, nodesOf};
 ghost use Rattle.parser.specs.Steps.{Ready, Parses, ParsesList};
 ghost use Rattle.parser.specs.Shapes.{IsToken};
 ghost use Rattle.error.specs.Causes.{badPrecedence};
 ghost use Rattle.tree.specs.Stored.{referenceBranch, tokenPrecBranch, tokenConflictBranch, precItemBranch};
-ghost use Rattle.parser.specs.Parser.{eat, until, commaOrNot};
-ghost use Rattle.parser.specs.Declarations.{parseTokenReference, parseTokenPrecedence, parseTokenConflict, parsePrecItem, parsePrecedence};
+ghost use Rattle.notation.specs.Parser.{eat, until, commaOrNot};
+ghost use Rattle.notation.specs.Declarations.{parseTokenReference, parseTokenPrecedence, parseTokenConflict, parsePrecItem, parsePrecedence};
 ghost use Rattle.declarations.specs.Promise.{TakesPrec, precedenceBranch, conflictPair};
 
 // The kind of a precedence, and the token after it.
@@ -90,14 +90,14 @@ pub fn parse_token_precedence(
     ensures { λ r. ⌜ Parses (parseTokenPrecedence (stream (now (source .entry)) token)) (nodesOf tokenPrecBranch) (now (source .entry)) token
         (lent n (now (records .entry)) x (now (texts .entry))) (now (records .exit)) (now (texts .exit)) r ⌝ }
 {
-    match parser::next(source, token) {
+    match tokens::next(source, token) {
         Arrived::Refused(cause, at) => Parsed::Refused(cause, at),
-        Arrived::At(u) => match parser::expect_punctuation(source, u, 0x7B) {
+        Arrived::At(u) => match tokens::expect_punctuation(source, u, 0x7B) {
             Arrived::Refused(cause, at) => Parsed::Refused(cause, at),
             Arrived::At(v) => match references_list(source, v, records, n, texts, x) {
                 Listed::Refused(cause, at) => Parsed::Refused(cause, at),
                 Listed::Done(w, m, y, count) => {
-                    let k = store::put_plain(records, m, 9, parser::start(token), 0, count);
+                    let k = store::put_plain(records, m, 9, tokens::start(token), 0, count);
                     Parsed::Done(w, k, y)
                 }
             },
@@ -132,7 +132,7 @@ fn conflict_pair(
                 y,
             ) {
                 Parsed::Refused(cause, at) => Listed::Refused(cause, at),
-                Parsed::Done(w, k, z) => match parser::expect_punctuation(source, w, 0x7D) {
+                Parsed::Done(w, k, z) => match tokens::expect_punctuation(source, w, 0x7D) {
                     Arrived::Refused(cause, at) => Listed::Refused(cause, at),
                     Arrived::At(t) => Listed::Done(t, k, z, 2),
                 },
@@ -154,14 +154,14 @@ pub fn parse_token_conflict(
     ensures { λ r. ⌜ Parses (parseTokenConflict (stream (now (source .entry)) token)) (nodesOf tokenConflictBranch) (now (source .entry)) token
         (lent n (now (records .entry)) x (now (texts .entry))) (now (records .exit)) (now (texts .exit)) r ⌝ }
 {
-    match parser::next(source, token) {
+    match tokens::next(source, token) {
         Arrived::Refused(cause, at) => Parsed::Refused(cause, at),
-        Arrived::At(u) => match parser::expect_punctuation(source, u, 0x7B) {
+        Arrived::At(u) => match tokens::expect_punctuation(source, u, 0x7B) {
             Arrived::Refused(cause, at) => Parsed::Refused(cause, at),
             Arrived::At(v) => match conflict_pair(source, v, records, n, texts, x) {
                 Listed::Refused(cause, at) => Parsed::Refused(cause, at),
                 Listed::Done(w, m, y, count) => {
-                    let k = store::put_plain(records, m, 10, parser::start(token), 0, count);
+                    let k = store::put_plain(records, m, 10, tokens::start(token), 0, count);
                     Parsed::Done(w, k, y)
                 }
             },
@@ -174,13 +174,13 @@ fn parse_prec_kind(source: &[u8], token: Current) -> PrecTaken
     requires { ⌜ LiesIn (now source) 0 token ⌝ }
     ensures { λ r. ⌜ TakesPrec (now (source .entry)) token r ⌝ }
 {
-    match parser::eat_at(source, token, b"left") {
+    match tokens::eat_at(source, token, b"left") {
         Eaten::Refused(cause, at) => PrecTaken::Refused(cause, at),
         Eaten::Yes(u) => PrecTaken::Got(PrecKind::Left, u),
-        Eaten::No => match parser::eat_at(source, token, b"right") {
+        Eaten::No => match tokens::eat_at(source, token, b"right") {
             Eaten::Refused(cause, at) => PrecTaken::Refused(cause, at),
             Eaten::Yes(u) => PrecTaken::Got(PrecKind::Right, u),
-            Eaten::No => match parser::eat_at(source, token, b"cut") {
+            Eaten::No => match tokens::eat_at(source, token, b"cut") {
                 Eaten::Refused(cause, at) => PrecTaken::Refused(cause, at),
                 Eaten::Yes(u) => PrecTaken::Got(PrecKind::Cut, u),
                 Eaten::No => PrecTaken::Got(PrecKind::Missing, token),
@@ -201,7 +201,7 @@ fn parse_prec_item(
     ensures { λ r. ⌜ Parses (parsePrecItem (stream (now (source .entry)) token)) (nodesOf precItemBranch) (now (source .entry)) token
         (lent n (now (records .entry)) x (now (texts .entry))) (now (records .exit)) (now (texts .exit)) r ⌝ }
 {
-    match parser::parse_identifier(source, token) {
+    match tokens::parse_identifier(source, token) {
         Taken::Refused(cause, at) => Parsed::Refused(cause, at),
         Taken::Got(a, e, u) => match parse_prec_kind(source, u) {
             PrecTaken::Refused(cause, at) => Parsed::Refused(cause, at),
@@ -209,7 +209,7 @@ fn parse_prec_item(
                 let put = store::put_named(
                     &source[a..e],
                     21,
-                    parser::start(token),
+                    tokens::start(token),
                     tree::prec_value(kind),
                     0,
                     records,
@@ -276,14 +276,14 @@ pub fn parse_precedence(
     ensures { λ r. ⌜ Parses (parsePrecedence (stream (now (source .entry)) token)) (nodesOf precedenceBranch) (now (source .entry)) token
         (lent n (now (records .entry)) x (now (texts .entry))) (now (records .exit)) (now (texts .exit)) r ⌝ }
 {
-    match parser::next(source, token) {
+    match tokens::next(source, token) {
         Arrived::Refused(cause, at) => Parsed::Refused(cause, at),
-        Arrived::At(u) => match parser::expect_punctuation(source, u, 0x7B) {
+        Arrived::At(u) => match tokens::expect_punctuation(source, u, 0x7B) {
             Arrived::Refused(cause, at) => Parsed::Refused(cause, at),
             Arrived::At(v) => match prec_items_list(source, v, records, n, texts, x) {
                 Listed::Refused(cause, at) => Parsed::Refused(cause, at),
                 Listed::Done(w, m, y, count) => {
-                    let k = store::put_plain(records, m, 20, parser::start(token), 0, count);
+                    let k = store::put_plain(records, m, 20, tokens::start(token), 0, count);
                     Parsed::Done(w, k, y)
                 }
             },

@@ -1,16 +1,16 @@
 // Declarations that name a source: contexts, prop sources, external props.
 use error::Cause;
-use parser::Current;
-use parser::Eaten;
-use parser::Taken;
 use parser::props::Parsed;
 use parser::store;
+use tokens::Current;
+use tokens::Eaten;
+use tokens::Taken;
 ghost use Prim.Native.Nat.{_≤_};
 ghost use lib.ListN.{length};
 ghost use Rattle.lexer.specs.Promise.{Part as PartIn};
 ghost use Rattle.tree.specs.Stored.{externalPropBranch};
-ghost use Rattle.parser.specs.Declarations.{parseExternalProp};
-ghost use Rattle.parser.specs.Promise.{stream, LiesIn};
+ghost use Rattle.notation.specs.Declarations.{parseExternalProp};
+ghost use Rattle.tokens.specs.Promise.{stream, LiesIn};
 ghost use Rattle.parser.specs.Storing.{lent, nodesOf};
 ghost use Rattle.parser.specs.Steps.{Ready, Parses};
 ghost use Rattle.declarations.specs.Sources.{TakesSource, fromSource, fromBranch, TakesId};
@@ -20,10 +20,10 @@ pub fn parse_source(source: &[u8], token: Current) -> Taken
     requires { ⌜ LiesIn (now source) 0 token ⌝ }
     ensures { λ r. ⌜ TakesSource (now (source .entry)) token r ⌝ }
 {
-    match parser::eat_identifier_value(source, token, b"from") {
+    match tokens::eat_identifier_value(source, token, b"from") {
         Eaten::Refused(cause, at) => Taken::Refused(cause, at),
-        Eaten::No => Taken::Refused(Cause::UnexpectedToken, parser::start(token)),
-        Eaten::Yes(u) => parser::expect_string(source, u),
+        Eaten::No => Taken::Refused(Cause::UnexpectedToken, tokens::start(token)),
+        Eaten::Yes(u) => tokens::expect_string(source, u),
     }
 }
 
@@ -42,7 +42,7 @@ pub fn parse_from(
     ensures { λ r. ⌜ Parses (fromSource (stream (now (source .entry)) token)) (nodesOf (fromBranch kind start)) (now (source .entry)) token
         (lent n (now (records .entry)) x (now (texts .entry))) (now (records .exit)) (now (texts .exit)) r ⌝ }
 {
-    match parser::parse_identifier(source, token) {
+    match tokens::parse_identifier(source, token) {
         Taken::Refused(cause, at) => Parsed::Refused(cause, at),
         Taken::Got(a, e, u) => match parse_source(source, u) {
             Taken::Refused(cause, at) => Parsed::Refused(cause, at),
@@ -70,10 +70,10 @@ fn parse_as(source: &[u8], token: Current, a: usize, e: usize) -> Taken
     requires { ⌜ LiesIn (now source) 0 token × PartIn (now source) a e ⌝ }
     ensures { λ r. ⌜ TakesId (now (source .entry)) token a e r ⌝ }
 {
-    match parser::eat_identifier_value(source, token, b"as") {
+    match tokens::eat_identifier_value(source, token, b"as") {
         Eaten::Refused(cause, at) => Taken::Refused(cause, at),
         Eaten::No => Taken::Got(a, e, token),
-        Eaten::Yes(u) => parser::parse_identifier(source, u),
+        Eaten::Yes(u) => tokens::parse_identifier(source, u),
     }
 }
 
@@ -91,7 +91,7 @@ pub fn parse_external_prop(
     ensures { λ r. ⌜ Parses (parseExternalProp start (stream (now (source .entry)) token)) (nodesOf externalPropBranch) (now (source .entry)) token
         (lent n (now (records .entry)) x (now (texts .entry))) (now (records .exit)) (now (texts .exit)) r ⌝ }
 {
-    match parser::parse_identifier(source, token) {
+    match tokens::parse_identifier(source, token) {
         Taken::Refused(cause, at) => Parsed::Refused(cause, at),
         Taken::Got(a, e, u) => match parse_as(source, u, a, e) {
             Taken::Refused(cause, at) => Parsed::Refused(cause, at),
@@ -101,7 +101,7 @@ pub fn parse_external_prop(
                     let name = store::put_named(
                         &source[a..e],
                         26,
-                        parser::start(token),
+                        tokens::start(token),
                         0,
                         0,
                         records,

@@ -1,9 +1,5 @@
 // Rules, names and references: `parse_rule`, `parse_token_reference`.
 use error::Cause;
-use parser::Arrived;
-use parser::Current;
-use parser::Part;
-use parser::Taken;
 use parser::expressions;
 use parser::parts;
 use parser::parts::Expressed;
@@ -15,16 +11,20 @@ use parser::props::Listed;
 use parser::props::Opened;
 use parser::props::Parsed;
 use parser::store;
+use tokens::Arrived;
+use tokens::Current;
+use tokens::Part;
+use tokens::Taken;
 ghost use mathlib.Core.Path.{_≡_};
 ghost use Prim.Native.Nat.{_+_};
-ghost use Rattle.parser.specs.Promise.{stream, stringOf};
+ghost use Rattle.tokens.specs.Promise.{stream, stringOf};
 ghost use Rattle.parser.specs.Storing.{lent, nodesOf};
 ghost use Rattle.parser.specs.Steps.{Ready, Parses, ParsesList};
-ghost use Rattle.parser.specs.declared.Part.the-variants.{From};
+ghost use Rattle.tokens.specs.declared.Part.the-variants.{From};
 ghost use Rattle.tree.specs.Stored.{ruleBranch, referenceBranch, nameBranch, namedNodeBranch, literalBranch};
 ghost use Rattle.error.specs.Promise.{causeNumber};
-ghost use Rattle.parser.specs.Parser.{eat, until, commaOrNot, parseIdentifier};
-ghost use Rattle.parser.specs.Declarations.{parseRule, parseTokenReference, parseNamedNode, names};
+ghost use Rattle.notation.specs.Parser.{eat, until, commaOrNot, parseIdentifier};
+ghost use Rattle.notation.specs.Declarations.{parseRule, parseTokenReference, parseNamedNode, names};
 ghost use Rattle.declarations.specs.Promise.{literalAt};
 
 // How many levels a rule's body may have.
@@ -44,7 +44,7 @@ pub fn parse_rule(
     ensures { λ r. ⌜ Parses (parseRule (stream (now (source .entry)) token)) (nodesOf (ruleBranch kind)) (now (source .entry)) token
         (lent n (now (records .entry)) x (now (texts .entry))) (now (records .exit)) (now (texts .exit)) r ⌝ }
 {
-    match parser::parse_identifier(source, token) {
+    match tokens::parse_identifier(source, token) {
         Taken::Refused(cause, at) => Parsed::Refused(cause, at),
         Taken::Got(a, e, u) => match parts::rule_head(source, u, records, n, texts, x) {
             Headed::Refused(cause, at) => Parsed::Refused(cause, at),
@@ -62,7 +62,7 @@ pub fn parse_rule(
                     let put = store::put_named(
                         &source[a..e],
                         kind,
-                        parser::start(token),
+                        tokens::start(token),
                         0,
                         count + params + 1,
                         records,
@@ -91,7 +91,7 @@ pub fn parse_token_reference(
     ensures { λ r. ⌜ Parses (parseTokenReference (causeNumber cause) (stream (now (source .entry)) token)) (nodesOf referenceBranch) (now (source .entry)) token
         (lent n (now (records .entry)) x (now (texts .entry))) (now (records .exit)) (now (texts .exit)) r ⌝ }
 {
-    match expressions::parse_expression_inner(source, LEVELS, token, records, n, texts, x) {
+    match expressions::parse_inner(source, LEVELS, token, records, n, texts, x) {
         Expressed::Refused(c, at) => Parsed::Refused(c, at),
         Expressed::Done(u, m, y, p, shape) => match shape {
             Shape::Name => Parsed::Done(u, m, y),
@@ -117,13 +117,13 @@ pub fn parse_name(
     ensures { λ r. ⌜ Parses (parseIdentifier (stream (now (source .entry)) token)) (nodesOf (nameBranch kind)) (now (source .entry)) token
         (lent n (now (records .entry)) x (now (texts .entry))) (now (records .exit)) (now (texts .exit)) r ⌝ }
 {
-    match parser::parse_identifier(source, token) {
+    match tokens::parse_identifier(source, token) {
         Taken::Refused(cause, at) => Parsed::Refused(cause, at),
         Taken::Got(a, e, u) => {
             let put = store::put_named(
                 &source[a..e],
                 kind,
-                parser::start(token),
+                tokens::start(token),
                 0,
                 0,
                 records,
@@ -191,7 +191,7 @@ pub fn parse_names(
     ensures { λ r. ⌜ ParsesList (names (stream (now (source .entry)) token)) (nodesOf (nameBranch kind)) (now (source .entry)) token 2
         (lent n (now (records .entry)) x (now (texts .entry))) (now (records .exit)) (now (texts .exit)) r ⌝ }
 {
-    match parser::expect_punctuation(source, token, 0x7B) {
+    match tokens::expect_punctuation(source, token, 0x7B) {
         Arrived::Refused(cause, at) => Listed::Refused(cause, at),
         Arrived::At(u) => names_list(source, u, kind, records, n, texts, x),
     }
@@ -210,7 +210,7 @@ pub fn parse_named_node(
     ensures { λ r. ⌜ Parses (parseNamedNode (stream (now (source .entry)) token)) (nodesOf namedNodeBranch) (now (source .entry)) token
         (lent n (now (records .entry)) x (now (texts .entry))) (now (records .exit)) (now (texts .exit)) r ⌝ }
 {
-    match parser::parse_identifier(source, token) {
+    match tokens::parse_identifier(source, token) {
         Taken::Refused(cause, at) => Parsed::Refused(cause, at),
         Taken::Got(a, e, u) => match props::parse_props(source, u, records, n, texts, x) {
             Listed::Refused(cause, at) => Parsed::Refused(cause, at),
@@ -218,7 +218,7 @@ pub fn parse_named_node(
                 let put = store::put_named(
                     &source[a..e],
                     13,
-                    parser::start(token),
+                    tokens::start(token),
                     0,
                     count,
                     records,
@@ -247,7 +247,7 @@ pub fn parse_literal(
     ensures { λ r. ⌜ Parses (literalAt (now (source .entry)) a e (stream (now (source .entry)) token)) (nodesOf literalBranch) (now (source .entry)) token
         (lent n (now (records .entry)) x (now (texts .entry))) (now (records .exit)) (now (texts .exit)) r ⌝ }
 {
-    match parser::next(source, token) {
+    match tokens::next(source, token) {
         Arrived::Refused(cause, at) => Parsed::Refused(cause, at),
         Arrived::At(u) => match props::parse_props(source, u, records, n, texts, x) {
             Listed::Refused(cause, at) => Parsed::Refused(cause, at),
@@ -255,7 +255,7 @@ pub fn parse_literal(
                 let put = store::put_string(
                     &source[a..e],
                     11,
-                    parser::start(token),
+                    tokens::start(token),
                     count,
                     records,
                     m,

@@ -14,7 +14,7 @@ use Rattle.tree.specs.Stored.{grammarWords, grammarTexts}
 use Rattle.tree.specs.OneTree.{isExpression, build}
 use Rattle.tree.specs.Equality.{structurallyEq}
 use Rattle.tree.specs.Syntax.{GrammarDeclaration}
-use Rattle.writer.specs.NormalText.{normalText}
+use Rattle.spelling.specs.NormalText.{normalText}
 use Rattle.grammar.specs.Reading.{Reading, tree, stopped, reading, longest}
 
 -- bytes or words over the front of what was lent; the rest of it is unchanged

@@ -12,7 +12,7 @@ use Rattle.tree.specs.Records.{Record, words}
 use Rattle.tree.specs.Stored.{grammarWords}
 use Rattle.tree.specs.Equality.{agree}
 use Rattle.tree.specs.Syntax.{GrammarDeclaration}
-use Rattle.writer.specs.NormalText.{normalText}
+use Rattle.spelling.specs.NormalText.{normalText}
 use Rattle.grammar.specs.Reading.{Reading, tree, stopped, reading}
 use Rattle.grammar.specs.Program.{printed}
 

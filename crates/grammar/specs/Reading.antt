@@ -19,8 +19,8 @@ use Rattle.lexer.specs.Tokens.{Tokens, comment, body, solid, piece, tokensFrom,
 use Rattle.lexer.specs.Escapes.{hexDigit, scalar, fixed, untilBrace, braced, control, escape, atomsFrom, decodeString}
 use Rattle.lexer.specs.Sets.{rangeEnd, written, overlapsOne, faultFrom, insert, sorted}
 use Rattle.tree.specs.Syntax.{GrammarDeclaration}
-use Rattle.parser.specs.Parser.{Answer, read, refused}
-use Rattle.parser.specs.Declarations.{parseGrammar}
+use Rattle.notation.specs.Parser.{Answer, read, refused}
+use Rattle.notation.specs.Declarations.{parseGrammar}
 
 -- the most bytes that a text, or a normal text, may have
 unfoldable pub longest : ℕ

@@ -26,8 +26,8 @@ use Rattle.lexer.specs.Tokens.{Tokens, token, eof, bad, comment, body, solid, p
 use Rattle.lexer.specs.Escapes.{hexDigit, scalar, fixed, untilBrace, braced, control, escape, atomsFrom, decodeString}
 use Rattle.lexer.specs.Sets.{rangeEnd, written, overlapsOne, faultFrom, insert, sorted}
 use Rattle.tree.specs.Syntax.{GrammarDeclaration}
-use Rattle.parser.specs.Parser.{Answer, read, refused}
-use Rattle.parser.specs.Declarations.{parseGrammar, parse}
+use Rattle.notation.specs.Parser.{Answer, read, refused}
+use Rattle.notation.specs.Declarations.{parseGrammar, parse}
 use Rattle.grammar.specs.Reading.{Reading, tree, stopped, reading, answered, readChecked, longest}
 use Rattle.laws.specs.Starts.{onTokens, onAnswer, onGrammar, bare}
 use Rattle.laws.proofs.Lists.{clash}

@@ -9,7 +9,7 @@ use mathlib.Core.List.{List, [], _∷_, _++_, map}
 use mathlib.Core.Option.{Option, none, some}
 use Rattle.lexer.specs.Tokens.{Kind, Tokens, token, eof, bad}
 use Rattle.tree.specs.Syntax.{Identifier}
-use Rattle.parser.specs.Parser.{Answer, read, refused, Parser, andThen, _>>=_, _>>_, pure, refuse, choose, startOf, here, refuseHere, unexpected, kindOf, kind, arrive, next, nameIn, atIn, stringIn, isMark, says, eatIf, eat, eatName, eatAt, must, expect, expectName, taken, expectString, parseIdentifier, size, turns, loop, separate, untilStep, until, comma, commaOrNot, nothing}
+use Rattle.notation.specs.Parser.{Answer, read, refused, Parser, andThen, _>>=_, _>>_, pure, refuse, choose, startOf, here, refuseHere, unexpected, kindOf, kind, arrive, next, nameIn, atIn, stringIn, isMark, says, eatIf, eat, eatName, eatAt, must, expect, expectName, taken, expectString, parseIdentifier, size, turns, loop, separate, untilStep, until, comma, commaOrNot, nothing}
 use Rattle.laws.specs.Starts.{onTokens, onAnswer, onIdentifier}
 use Rattle.laws.proofs.Lists.{onOption, map-append}
 

@@ -10,11 +10,11 @@ use Rattle.basics.specs.Basics.{if_then_else_, spells, concat, lastOf, firstOf,
 use Rattle.error.specs.Causes.{noTop}
 use Rattle.lexer.specs.Tokens.{Kind, Tokens}
 use Rattle.tree.specs.Syntax.{Identifier, Expression, SpecializeKind, RuleDeclaration, TokenReference, TokenPrecDeclaration, TokenConflictDeclaration, LiteralDeclaration, NamedNode, TokenDeclaration, LocalTokenDeclaration, ExternalPropDeclaration, PrecKind, PrecItem, PrecDeclaration, ScopedSkipDeclaration, Declaration, GrammarDeclaration, startOf, declarationKind, ofKind, groups, grouped, hasKind}
-use Rattle.parser.specs.Limits.{levels}
-use Rattle.parser.specs.Parser.{Answer, Parser, _>>=_, _>>_, pure, choose, here, kind, refuseHere, arrive, next, isEnd, isMark, nameIn, atIn, stringIn, says, eat, eatAt, eatName, expect, expectName, expectString, parseIdentifier, until, commaOrNot, nothing}
-use Rattle.parser.specs.Expressions.{parseProps, referenceOf, parseExpressionInner, parseBracedExpression, parseRuleNamed, choiceAt}
-use Rattle.parser.specs.Members.{TokenMember, tokenPrecedence, tokenConflict, tokenRule, tokenLiteral, LocalMember, localPrecedence, localRule, localFallback, SkipMember, skipTopRule, skipRule, ExternalMember, externalToken, externalConflicts, Member, declaration, dialects, externalProp, detectDelim, declared, declaredDialects, declaredProp, detects}
-use Rattle.parser.specs.Declarations.{parseRule, referenceBy, parseTokenReference, parseTokenPrecedence, parseTokenConflict, parseLiteral, parseNamedNode, tokenMemberBy, parseTokenMember, parseTokens, parseLocalMember, parseLocalTokens, parseSource, parseExternalMember, parseExternalTokenSet, parseExternalTokens, parseExternalSpecializer, parseExternalPropSource, parseExternalProp, declares, externalBy, parseExternalDeclaration, parsePrecKind, parsePrecItem, parsePrecedence, seen, parseContextDeclaration, parseSkipMember, parseSkipDeclaration, topBy, parseDirective, declarationBy, parseDeclaration, isTop, hasTop, grammarOf, parse, parseGrammar}
+use Rattle.notation.specs.Limits.{levels}
+use Rattle.notation.specs.Parser.{Answer, Parser, _>>=_, _>>_, pure, choose, here, kind, refuseHere, arrive, next, isEnd, isMark, nameIn, atIn, stringIn, says, eat, eatAt, eatName, expect, expectName, expectString, parseIdentifier, until, commaOrNot, nothing}
+use Rattle.notation.specs.Expressions.{parseProps, referenceOf, parseExpressionInner, parseBracedExpression, parseRuleNamed, choiceAt}
+use Rattle.notation.specs.Members.{TokenMember, tokenPrecedence, tokenConflict, tokenRule, tokenLiteral, LocalMember, localPrecedence, localRule, localFallback, SkipMember, skipTopRule, skipRule, ExternalMember, externalToken, externalConflicts, Member, declaration, dialects, externalProp, detectDelim, declared, declaredDialects, declaredProp, detects}
+use Rattle.notation.specs.Declarations.{parseRule, referenceBy, parseTokenReference, parseTokenPrecedence, parseTokenConflict, parseLiteral, parseNamedNode, tokenMemberBy, parseTokenMember, parseTokens, parseLocalMember, parseLocalTokens, parseSource, parseExternalMember, parseExternalTokenSet, parseExternalTokens, parseExternalSpecializer, parseExternalPropSource, parseExternalProp, declares, externalBy, parseExternalDeclaration, parsePrecKind, parsePrecItem, parsePrecedence, seen, parseContextDeclaration, parseSkipMember, parseSkipDeclaration, topBy, parseDirective, declarationBy, parseDeclaration, isTop, hasTop, grammarOf, parse, parseGrammar}
 use Rattle.laws.specs.Starts.{onTokens, onIdentifier, onProp, onExpression, onRule, onReference, onTokenPrec, onTokenConflict, onLiteral, onNamedNode, onFallback, onPrecItem, onTokenBlock, onLocalTokens, onContext, onExternalTokens, onSpecializer, onPropSource, onExternalProp, onPrecedences, onScopedSkip, onDeclaration, onGrammar}
 use Rattle.laws.proofs.Lists.{onOption, map-append, map-isEmpty, map-firstOf, map-concat, map-lastOf, map-kept, map-picked}
 use Rattle.laws.proofs.Alike.{Alike, same, bind-alike, pure-alike, refuse-alike, choose-alike, here-alike, kind-alike, refuseHere-alike, arrive-alike, next-alike, eat-alike, eatAt-alike, eatName-alike, expect-alike, expectName-alike, expectString-alike, parseIdentifier-alike, until-alike, commaOrNot-alike}

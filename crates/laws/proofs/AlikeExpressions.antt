@@ -14,9 +14,9 @@ use Rattle.lexer.specs.Escapes.{decodeString}
 use Rattle.lexer.specs.Sets.{spans, fault}
 use Rattle.tree.specs.CharClasses.{fromName}
 use Rattle.tree.specs.Syntax.{Identifier, PropPart, Prop, ConflictMarker, ConflictMarkerKind, SpecializeKind, RepeatKind, CharClass, Expression, Expressions, []ᴱ, _∷ᴱ_, Slots, last, slot, RuleDeclaration, TokenReference, startOf, expressions}
-use Rattle.parser.specs.Parser.{Answer, Parser, _>>=_, _>>_, pure, refuse, choose, here, kind, refuseHere, unexpected, next, markIn, nameIn, atIn, isMark, says, endsSequence, eat, expect, parseIdentifier, loop, until, comma}
-use Rattle.parser.specs.Limits.{repeats}
-use Rattle.parser.specs.Expressions.{repeatMark, markerMark, Item, marker, expression, partBy, parsePart, propNamed, propBy, parseProp, parseProps, classBy, stdClassBy, setBy, parseSetExpression, literalOf, referenceOf, contentBy, inlineBy, stacked, repeatBy, parseRepeat, repeated, slots, sequenceOf, isEmptyArm, firstEmptyArm, choiceBy, choiceOf, parseBracedExpression, parseRuleNamed, parseInlineRuleExpression, parseSpecializeExpression, parseParenthesizedExpression, parseArguments, parseNamed, innerBy, parseExpressionInner, parseExpressionSuffix, itemBy, parseItem, parseExpressionSequence, parseArm, parseExpressionChoice, choiceAt}
+use Rattle.notation.specs.Parser.{Answer, Parser, _>>=_, _>>_, pure, refuse, choose, here, kind, refuseHere, unexpected, next, markIn, nameIn, atIn, isMark, says, endsSequence, eat, expect, parseIdentifier, loop, until, comma}
+use Rattle.notation.specs.Limits.{repeats}
+use Rattle.notation.specs.Expressions.{repeatMark, markerMark, Item, marker, expression, partBy, parsePart, propNamed, propBy, parseProp, parseProps, classBy, stdClassBy, setBy, parseSetExpression, literalOf, referenceOf, contentBy, inlineBy, stacked, repeatBy, parseRepeat, repeated, slots, sequenceOf, isEmptyArm, firstEmptyArm, choiceBy, choiceOf, parseBracedExpression, parseRuleNamed, parseInlineRuleExpression, parseSpecializeExpression, parseParenthesizedExpression, parseArguments, parseNamed, innerBy, parseExpressionInner, parseExpressionSuffix, itemBy, parseItem, parseExpressionSequence, parseArm, parseExpressionChoice, choiceAt}
 use Rattle.laws.specs.Starts.{onTokens, onAnswer, onIdentifier, onPart, onProp, onMarker, onExpression, onExpressions, onSlots, onRule, onReference}
 use Rattle.laws.proofs.Lists.{onOption, map-append}
 use Rattle.laws.proofs.Alike.{Alike, same, bind-alike, pure-alike, refuse-alike, choose-alike, here-alike, kind-alike, refuseHere-alike, next-alike, eat-alike, expect-alike, parseIdentifier-alike, loop-alike, until-alike}

@@ -14,7 +14,7 @@ use Rattle.error.specs.Causes.{recordsFull, textsFull, outputFull}
 use Rattle.error.specs.Lines.{Refusal, lineFeeds, lineStart, lineAt, columnAt, refusalAt}
 use Rattle.tree.specs.Syntax.{GrammarDeclaration}
 use Rattle.tree.specs.Stored.{grammarWords, grammarTexts}
-use Rattle.writer.specs.NormalText.{normalText}
+use Rattle.spelling.specs.NormalText.{normalText}
 use Rattle.grammar.specs.Reading.{Reading, tree, stopped, reading, longest}
 use Rattle.grammar.specs.Calls.{over, roomFor, NormalAnswer, written, NormalOutcome, writeBy, normalBy, normal}
 use Rattle.laws.specs.Demand3.{Accepted, NormalOfItsOutput}

@@ -12,7 +12,7 @@ use Rattle.characters.specs.Utf8.{codes, encodeAll}
 use Rattle.tree.specs.Records.{Row, Branch, branch, Branches, []ᴮ, _∷ᴮ_}
 use Rattle.tree.specs.OneTree.{isExpression, kindOf}
 use Rattle.tree.specs.Syntax.{Identifier, PropPart, value, Prop, ConflictMarker, ConflictMarkerKind, ambiguity, precedence, SpecializeKind, extend, specialize, RepeatKind, optional, zeroOrMore, oneOrMore, CharClass, asciiLetter, asciiLowercase, asciiUppercase, digit, whitespace, eof, Expression, special, inline, choice, sequence, empty, repeat, set, any, class, Slots, last, slot, expressions, RuleDeclaration, TokenReference, TokenPrecDeclaration, TokenConflictDeclaration, LiteralDeclaration, NamedNode, ExternalPropDeclaration, PrecKind, left, right, cut, PrecItem, Declaration, topRule, rule, tokens, localTokens, context, externalTokens, externalSpecializer, externalPropSource, precedences, mainSkip, scopedSkip, GrammarDeclaration}
-use Rattle.parser.specs.Expressions.{referenceOf}
+use Rattle.notation.specs.Expressions.{referenceOf}
 use Rattle.laws.proofs.Fine.{U}
 
 abbrev textOf : Row → List ℕ

@@ -13,8 +13,8 @@ use Rattle.tree.specs.Records.{Branch, branch, Branches, []ᴮ, _∷ᴮ_}
 use Rattle.tree.specs.OneTree.{kindOf}
 use Rattle.tree.specs.Stored.{valued, each, flag, propBranch, expressionBranch, nameBranch, sourceBranch, ruleBranch, referenceBranch, tokenPrecBranch, tokenConflictBranch, literalBranch, namedNodeBranch, fallbackBranches, precValue, precItemBranch, declarationBranch, externalPropBranch, grammarBranch}
 use Rattle.tree.specs.Syntax.{Identifier, Prop, RuleDeclaration, TokenReference, referred, TokenPrecDeclaration, TokenConflictDeclaration, LiteralDeclaration, NamedNode, TokenDeclaration, LocalTokenDeclaration, ExternalTokenDeclaration, ExternalSpecializeDeclaration, ExternalPropDeclaration, PrecDeclaration, ScopedSkipDeclaration, PrecKind, left, right, cut, PrecItem, Declaration, topRule, rule, tokens, localTokens, context, externalTokens, externalSpecializer, externalPropSource, precedences, mainSkip, scopedSkip, GrammarDeclaration}
-use Rattle.parser.specs.Limits.{levels}
-use Rattle.parser.specs.Expressions.{referenceOf}
+use Rattle.notation.specs.Limits.{levels}
+use Rattle.notation.specs.Expressions.{referenceOf}
 use Rattle.laws.specs.Starts.{onIdentifier, onProp, onExpression, onRule, onReference, onTokenPrec, onTokenConflict, onLiteral, onNamedNode, onFallback, onPrecItem, onExternalProp, onDeclaration, onGrammar}
 use Rattle.laws.proofs.Lists.{clash, append-none}
 use Rattle.laws.proofs.Fine.{U}

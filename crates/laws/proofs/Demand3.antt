@@ -16,9 +16,9 @@ use Rattle.tree.specs.Records.{Record, words, records, texts}
 use Rattle.tree.specs.Syntax.{GrammarDeclaration}
 use Rattle.tree.specs.Stored.{grammarBranch, grammarRecords, grammarTexts, grammarWords}
 use Rattle.tree.specs.Equality.{agreeing, allAgreeing, agree}
-use Rattle.parser.specs.Parser.{Answer, read}
-use Rattle.parser.specs.Declarations.{parse}
-use Rattle.writer.specs.NormalText.{each, lines, linesText, normalText}
+use Rattle.notation.specs.Parser.{Answer, read}
+use Rattle.notation.specs.Declarations.{parse}
+use Rattle.spelling.specs.NormalText.{each, lines, linesText, normalText}
 use Rattle.grammar.specs.Reading.{tree, reading, answered, longest}
 use Rattle.laws.specs.Starts.{onTokens, onGrammar, bare}
 use Rattle.laws.specs.Demand3.{_reads_, Accepted, NormalTextsAreAccepted, EqualWhenTreesAgree, AgreeingTreesTakeTheSameRoom}

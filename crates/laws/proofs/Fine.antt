@@ -11,7 +11,7 @@ use Rattle.lexer.specs.Tokens.{Kind, Tokens, token, eof, bad}
 use Rattle.lexer.specs.Escapes.{decodeString}
 use Rattle.lexer.specs.Sets.{spans, fault, sorted}
 use Rattle.lexer.proofs.Back.{Words}
-use Rattle.writer.proofs.Back.{Spelled}
+use Rattle.spelling.proofs.Back.{Spelled}
 
 -- without starts
 abbrev pub U : Type 0

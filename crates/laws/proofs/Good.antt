@@ -8,8 +8,8 @@ use mathlib.Core.Option.{Option, none, some}
 use lib.ListN.{length}
 use Rattle.basics.specs.Basics.{among}
 use Rattle.tree.specs.Syntax.{Identifier, Expression, RuleDeclaration, TokenReference, referred, TokenPrecDeclaration, TokenConflictDeclaration, LiteralDeclaration, NamedNode, TokenDeclaration, LocalTokenDeclaration, ContextDeclaration, ExternalTokenDeclaration, ExternalSpecializeDeclaration, ExternalPropSourceDeclaration, ExternalPropDeclaration, PrecItem, PrecDeclaration, ScopedSkipDeclaration, Declaration, topRule, rule, tokens, localTokens, context, externalTokens, externalSpecializer, externalPropSource, precedences, mainSkip, scopedSkip, GrammarDeclaration, ofKind, Grouped}
-use Rattle.parser.specs.Limits.{levels}
-use Rattle.parser.specs.Declarations.{hasTop}
+use Rattle.notation.specs.Limits.{levels}
+use Rattle.notation.specs.Declarations.{hasTop}
 use Rattle.characters.proofs.Chars.{Scalars}
 use Rattle.laws.proofs.Fine.{U, Word}
 use Rattle.laws.proofs.Readable.{Every, GoodName, GoodProp, Item, Readable}

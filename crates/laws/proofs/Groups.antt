@@ -10,7 +10,7 @@ use lib.Dec.{eqb}
 use lib.ListN.{length, length-append}
 use Rattle.basics.specs.Basics.{among, isEmpty, every, keepIf, kept}
 use Rattle.tree.specs.Syntax.{RuleDeclaration, Declaration, declarationKind, ofKind, groups, grouped, hasKind}
-use Rattle.parser.specs.Declarations.{isTop, hasTop}
+use Rattle.notation.specs.Declarations.{isTop, hasTop}
 use Rattle.laws.proofs.Lists.{clash, not-true}
 use Rattle.laws.proofs.Fine.{U}
 use Rattle.laws.proofs.Readable.{Every, every-none, every-more}

@@ -20,9 +20,9 @@ use Rattle.lexer.specs.Tokens.{Kind}
 use Rattle.lexer.proofs.Back.{Words, no-more, Written, a-name, an-at, a-string, a-set, a-not-set, a-mark}
 use Rattle.lexer.proofs.Back as B
 use Rattle.tree.specs.Syntax.{Identifier, PropPart, value, Prop, ConflictMarkerKind, ambiguity, precedence, ConflictMarker, SpecializeKind, extend, specialize, RepeatKind, optional, zeroOrMore, oneOrMore, CharClass, asciiLetter, asciiLowercase, asciiUppercase, digit, whitespace, eof, Expression, special, inline, choice, sequence, empty, repeat, set, any, class, Expressions, []ᴱ, _∷ᴱ_, Slots, last, slot}
-use Rattle.writer.specs.Spelling.{quoted, spansText, spell}
-use Rattle.writer.specs.NormalText.{each, eachAfter, commas, bracketed, mark, at, word, string, identifier, markerSign, repeatSign, specializeWord, className, bracketIf, propName, partTokens, valueTokens, propTokens, propsTokens, isChoice, isSequence, markerTokens, expressionTokens, argumentsTokens, moreArguments, armsTokens, moreArms, slotsTokens, bodyTokens}
-use Rattle.writer.proofs.Back.{quoted-body, spans-body, Ascii, no-ascii, more-ascii, spans-ascii}
+use Rattle.spelling.specs.Spelling.{quoted, spansText, spell}
+use Rattle.spelling.specs.NormalText.{each, eachAfter, commas, bracketed, mark, at, word, string, identifier, markerSign, repeatSign, specializeWord, className, bracketIf, propName, partTokens, valueTokens, propTokens, propsTokens, isChoice, isSequence, markerTokens, expressionTokens, argumentsTokens, moreArguments, armsTokens, moreArms, slotsTokens, bodyTokens}
+use Rattle.spelling.proofs.Back.{quoted-body, spans-body, Ascii, no-ascii, more-ascii, spans-ascii}
 use Rattle.laws.proofs.Lists.{not-empty}
 use Rattle.laws.proofs.Fine.{U, Word}
 use Rattle.laws.proofs.Readable.{Every, every-none, every-more, GoodName, GoodPart, good-value, good-braced, GoodProp, GoodMarker, Grade, Each, each-none, each-more, Item, item-name, item-special, item-inline, item-choice, item-sequence, item-empty, item-repeat, item-literal, item-set, item-any, item-class, InSlots, in-last, in-slot, Arm, arm-sequence, arm-item, Arms, arms-none, arms-more, Level, level-choice, level-arm, Readable}

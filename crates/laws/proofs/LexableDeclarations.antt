@@ -9,9 +9,9 @@ use Rattle.basics.specs.Basics.{letters}
 use Rattle.characters.proofs.Chars.{Scalars}
 use Rattle.lexer.specs.Tokens.{Kind}
 use Rattle.tree.specs.Syntax.{Identifier, SpecializeKind, extend, specialize, Expression, RuleDeclaration, TokenReference, referred, TokenPrecDeclaration, TokenConflictDeclaration, LiteralDeclaration, NamedNode, ExternalPropDeclaration, PrecKind, left, right, cut, PrecItem, Declaration, GrammarDeclaration}
-use Rattle.parser.specs.Members.{Member, declaration, dialects, externalProp, detectDelim}
-use Rattle.parser.specs.Limits.{levels}
-use Rattle.writer.specs.NormalText.{each, commas, mark, at, word, identifier, specializeWord, precTokens, fromTokens, expressionTokens, bodyTokens, ruleTokens, topRuleTokens, referenceTokens, tokenPrecTokens, tokenConflictTokens, literalTokens, namedNodeTokens, fallbackTokens, precItemTokens, conflictsTokens, externalSetTokens, declarationTokens, externalPropTokens}
+use Rattle.notation.specs.Members.{Member, declaration, dialects, externalProp, detectDelim}
+use Rattle.notation.specs.Limits.{levels}
+use Rattle.spelling.specs.NormalText.{each, commas, mark, at, word, identifier, specializeWord, precTokens, fromTokens, expressionTokens, bodyTokens, ruleTokens, topRuleTokens, referenceTokens, tokenPrecTokens, tokenConflictTokens, literalTokens, namedNodeTokens, fallbackTokens, precItemTokens, conflictsTokens, externalSetTokens, declarationTokens, externalPropTokens}
 use Rattle.laws.proofs.Lists.{not-empty}
 use Rattle.laws.proofs.Fine.{U, Word}
 use Rattle.laws.proofs.Readable.{Every, every-none, every-more, GoodName, GoodProp}

@@ -11,7 +11,7 @@ use Rattle.basics.specs.Basics.{if_then_else_}
 use Rattle.lexer.specs.Tokens.{Kind, Tokens, token, eof, bad}
 use Rattle.lexer.specs.Escapes.{decodeString}
 use Rattle.tree.specs.Syntax.{Identifier}
-use Rattle.parser.specs.Parser.{Answer, read, refused, Parser, andThen, _>>=_, _>>_, pure, refuse, choose, startOf, here, refuseHere, kindOf, kind, arrive, next, markIn, nameIn, atIn, stringIn, isMark, says, eatIf, eat, eatName, eatAt, must, expect, expectName, taken, expectString, parseIdentifier, size, turns, loop, separate, untilStep, until, comma, commaOrNot, nothing}
+use Rattle.notation.specs.Parser.{Answer, read, refused, Parser, andThen, _>>=_, _>>_, pure, refuse, choose, startOf, here, refuseHere, kindOf, kind, arrive, next, markIn, nameIn, atIn, stringIn, isMark, says, eatIf, eat, eatName, eatAt, must, expect, expectName, taken, expectString, parseIdentifier, size, turns, loop, separate, untilStep, until, comma, commaOrNot, nothing}
 use Rattle.laws.proofs.Lists.{clash}
 use Rattle.characters.proofs.Chars.{Scalars}
 use Rattle.laws.proofs.Fine.{U, Word, FineKind, fine-name, fine-at, fine-string, fine-set, fine-mark, Fine, fine-token, fine-eof, fine-bad}

@@ -10,11 +10,11 @@ use Rattle.basics.specs.Basics.{if_then_else_, spells, concat, lastOf, firstOf,
 use Rattle.error.specs.Causes.{noTop}
 use Rattle.lexer.specs.Tokens.{Tokens}
 use Rattle.tree.specs.Syntax.{Identifier, Expression, SpecializeKind, RuleDeclaration, TokenReference, referred, TokenPrecDeclaration, TokenConflictDeclaration, LiteralDeclaration, NamedNode, ExternalPropDeclaration, PrecKind, PrecItem, Declaration, GrammarDeclaration, startOf, declarationKind, groups, hasKind}
-use Rattle.parser.specs.Limits.{levels}
-use Rattle.parser.specs.Parser.{Parser, _>>=_, _>>_, pure, choose, here, kind, refuseHere, arrive, next, isEnd, isMark, nameIn, atIn, stringIn, says, eat, eatAt, eatName, expect, expectName, expectString, parseIdentifier, untilStep, until, separate, commaOrNot, nothing}
-use Rattle.parser.specs.Expressions.{parseProps, referenceOf, parseExpressionInner, parseBracedExpression, parseRuleNamed, choiceAt}
-use Rattle.parser.specs.Members.{TokenMember, tokenPrecedence, tokenConflict, tokenRule, tokenLiteral, LocalMember, localPrecedence, localRule, localFallback, SkipMember, skipTopRule, skipRule, ExternalMember, externalToken, externalConflicts, Member, declaration, dialects, externalProp, detectDelim, declared, declaredDialects, declaredProp, detects}
-use Rattle.parser.specs.Declarations.{parseRule, referenceBy, parseTokenReference, parseTokenPrecedence, parseTokenConflict, parseLiteral, parseNamedNode, tokenMemberBy, parseTokenMember, parseTokens, parseLocalMember, parseLocalTokens, parseSource, parseExternalMember, parseExternalTokenSet, parseExternalTokens, parseExternalSpecializer, parseExternalPropSource, parseExternalProp, externalBy, parseExternalDeclaration, parsePrecKind, parsePrecItem, parsePrecedence, seen, parseContextDeclaration, parseSkipMember, parseSkipDeclaration, topBy, parseDirective, declarationBy, parseDeclaration, hasTop, grammarOf, parse}
+use Rattle.notation.specs.Limits.{levels}
+use Rattle.notation.specs.Parser.{Parser, _>>=_, _>>_, pure, choose, here, kind, refuseHere, arrive, next, isEnd, isMark, nameIn, atIn, stringIn, says, eat, eatAt, eatName, expect, expectName, expectString, parseIdentifier, untilStep, until, separate, commaOrNot, nothing}
+use Rattle.notation.specs.Expressions.{parseProps, referenceOf, parseExpressionInner, parseBracedExpression, parseRuleNamed, choiceAt}
+use Rattle.notation.specs.Members.{TokenMember, tokenPrecedence, tokenConflict, tokenRule, tokenLiteral, LocalMember, localPrecedence, localRule, localFallback, SkipMember, skipTopRule, skipRule, ExternalMember, externalToken, externalConflicts, Member, declaration, dialects, externalProp, detectDelim, declared, declaredDialects, declaredProp, detects}
+use Rattle.notation.specs.Declarations.{parseRule, referenceBy, parseTokenReference, parseTokenPrecedence, parseTokenConflict, parseLiteral, parseNamedNode, tokenMemberBy, parseTokenMember, parseTokens, parseLocalMember, parseLocalTokens, parseSource, parseExternalMember, parseExternalTokenSet, parseExternalTokens, parseExternalSpecializer, parseExternalPropSource, parseExternalProp, externalBy, parseExternalDeclaration, parsePrecKind, parsePrecItem, parsePrecedence, seen, parseContextDeclaration, parseSkipMember, parseSkipDeclaration, topBy, parseDirective, declarationBy, parseDeclaration, hasTop, grammarOf, parse}
 use Rattle.laws.proofs.Lists.{clash, onOption}
 use Rattle.characters.proofs.Chars.{Scalars}
 use Rattle.laws.proofs.Fine.{U, Word}

@@ -19,10 +19,10 @@ use Rattle.lexer.specs.Escapes.{decodeString}
 use Rattle.lexer.specs.Sets.{spans, fault, sorted}
 use Rattle.tree.specs.CharClasses.{fromName}
 use Rattle.tree.specs.Syntax.{Identifier, PropPart, Prop, ConflictMarker, ConflictMarkerKind, SpecializeKind, RepeatKind, CharClass, Expression, Expressions, []ᴱ, _∷ᴱ_, Slots, last, slot, RuleDeclaration, TokenReference, startOf, expressions}
-use Rattle.parser.specs.Limits.{repeats}
-use Rattle.parser.specs.Parser.{Answer, Parser, _>>=_, _>>_, pure, choose, here, kind, kindOf, next, markIn, nameIn, atIn, isMark, says, endsSequence, eat, expect, parseIdentifier, loop, separate, untilStep, until, comma}
-use Rattle.parser.specs.Expressions.{repeatMark, markerMark, Item as SeqItem, marker, expression, partBy, parsePart, propNamed, propBy, parseProp, parseProps, classBy, stdClassBy, setBy, parseSetExpression, literalOf, referenceOf, contentBy, inlineBy, stacked, repeatBy, parseRepeat, repeated, slots, sequenceOf, isEmptyArm, firstEmptyArm, choiceBy, choiceOf, parseBracedExpression, parseRuleNamed, parseInlineRuleExpression, parseSpecializeExpression, parseParenthesizedExpression, parseArguments, parseNamed, innerBy, parseExpressionInner, parseExpressionSuffix, itemBy, parseItem, parseExpressionSequence, parseArm, parseExpressionChoice, choiceAt}
-use Rattle.writer.specs.NormalText.{isChoice, isSequence}
+use Rattle.notation.specs.Limits.{repeats}
+use Rattle.notation.specs.Parser.{Answer, Parser, _>>=_, _>>_, pure, choose, here, kind, kindOf, next, markIn, nameIn, atIn, isMark, says, endsSequence, eat, expect, parseIdentifier, loop, separate, untilStep, until, comma}
+use Rattle.notation.specs.Expressions.{repeatMark, markerMark, Item as SeqItem, marker, expression, partBy, parsePart, propNamed, propBy, parseProp, parseProps, classBy, stdClassBy, setBy, parseSetExpression, literalOf, referenceOf, contentBy, inlineBy, stacked, repeatBy, parseRepeat, repeated, slots, sequenceOf, isEmptyArm, firstEmptyArm, choiceBy, choiceOf, parseBracedExpression, parseRuleNamed, parseInlineRuleExpression, parseSpecializeExpression, parseParenthesizedExpression, parseArguments, parseNamed, innerBy, parseExpressionInner, parseExpressionSuffix, itemBy, parseItem, parseExpressionSequence, parseArm, parseExpressionChoice, choiceAt}
+use Rattle.spelling.specs.NormalText.{isChoice, isSequence}
 use Rattle.laws.proofs.Lists.{clash, not-true}
 use Rattle.characters.proofs.Chars.{Scalars}
 use Rattle.characters.proofs.Chars as Chars

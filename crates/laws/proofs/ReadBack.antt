@@ -13,8 +13,8 @@ use Rattle.basics.specs.Basics.{if_then_else_, firstOf}
 use Rattle.lexer.specs.Tokens.{Kind, Tokens, token, eof, bad}
 use Rattle.lexer.specs.Escapes.{decodeString}
 use Rattle.tree.specs.Syntax.{Identifier}
-use Rattle.parser.specs.Parser.{Answer, read, refused, Parser, andThen, _>>=_, _>>_, pure, choose, startOf, here, kindOf, kind, arrive, next, markIn, nameIn, atIn, stringIn, isMark, says, eatIf, eat, eatName, eatAt, must, expect, expectName, taken, expectString, parseIdentifier, size, turns, loop, separate, untilStep, until, comma, commaOrNot, nothing}
-use Rattle.writer.specs.NormalText.{each, eachAfter, commas, bracketed, mark}
+use Rattle.notation.specs.Parser.{Answer, read, refused, Parser, andThen, _>>=_, _>>_, pure, choose, startOf, here, kindOf, kind, arrive, next, markIn, nameIn, atIn, stringIn, isMark, says, eatIf, eat, eatName, eatAt, must, expect, expectName, taken, expectString, parseIdentifier, size, turns, loop, separate, untilStep, until, comma, commaOrNot, nothing}
+use Rattle.spelling.specs.NormalText.{each, eachAfter, commas, bracketed, mark}
 use Rattle.laws.proofs.Lists.{append-none, append-one}
 use Rattle.laws.proofs.Fine.{U}
 use Rattle.laws.proofs.Readable.{Every, every-none, every-more}

@@ -9,10 +9,10 @@ use lib.ListN.{length}
 use Rattle.basics.specs.Basics.{same, concat, firstOf, picked}
 use Rattle.lexer.specs.Tokens.{Kind}
 use Rattle.tree.specs.Syntax.{Identifier, RuleDeclaration, NamedNode}
-use Rattle.parser.specs.Parser.{_>>_, pure, choose, isMark, eat, eatAt, expect, until, nothing}
-use Rattle.parser.specs.Members.{SkipMember, skipTopRule, skipRule, ExternalMember, externalToken, externalConflicts}
-use Rattle.parser.specs.Declarations.{parseExternalMember, parseExternalTokenSet, parseSkipMember}
-use Rattle.writer.specs.NormalText.{each, eachAfter, commas, mark, at, identifier, ruleTokens, topRuleTokens, namedNodeTokens, externalSetTokens}
+use Rattle.notation.specs.Parser.{_>>_, pure, choose, isMark, eat, eatAt, expect, until, nothing}
+use Rattle.notation.specs.Members.{SkipMember, skipTopRule, skipRule, ExternalMember, externalToken, externalConflicts}
+use Rattle.notation.specs.Declarations.{parseExternalMember, parseExternalTokenSet, parseSkipMember}
+use Rattle.spelling.specs.NormalText.{each, eachAfter, commas, mark, at, identifier, ruleTokens, topRuleTokens, namedNodeTokens, externalSetTokens}
 use Rattle.laws.proofs.Lists.{append-none}
 use Rattle.laws.proofs.Fine.{U}
 use Rattle.laws.proofs.Readable.{Every, every-none, every-more, GoodName}

@@ -11,12 +11,12 @@ use Rattle.basics.specs.Basics.{letters, same, spells, firstOf}
 use Rattle.characters.specs.Spans.{Span}
 use Rattle.lexer.specs.Tokens.{Kind}
 use Rattle.tree.specs.Syntax.{Prop, ConflictMarker, ConflictMarkerKind, ambiguity, precedence, SpecializeKind, extend, specialize, RepeatKind, CharClass, asciiLetter, asciiLowercase, asciiUppercase, digit, whitespace, eof, Expression, special, inline, sequence, empty, set, any, class, Expressions, []ᴱ, _∷ᴱ_, Slots, last, slot, expressions}
-use Rattle.parser.specs.Limits.{repeats}
-use Rattle.parser.specs.Parser.{Parser, kind, isMark, eat, separate, untilStep, comma}
-use Rattle.parser.specs.Expressions.{Item as SeqItem, marker, expression, classBy, setBy, parseSetExpression, literalOf, inlineBy, stacked, parseRepeat, slots, sequenceOf, firstEmptyArm, choiceBy, choiceOf, parseBracedExpression, parseRuleNamed, parseInlineRuleExpression, parseSpecializeExpression, parseParenthesizedExpression, parseArguments, parseNamed, innerBy, parseExpressionInner, parseExpressionSuffix, itemBy, parseItem, parseExpressionSequence, parseArm, parseExpressionChoice, choiceAt}
-use Rattle.writer.specs.Spelling.{quoted, spansText}
-use Rattle.writer.specs.NormalText.{each, mark, markerSign, specializeWord, className, propsTokens, isChoice, markerTokens, expressionTokens, argumentsTokens, moreArguments, moreArms, slotsTokens, bodyTokens}
-use Rattle.writer.proofs.Back.{decode-back, spans-back}
+use Rattle.notation.specs.Limits.{repeats}
+use Rattle.notation.specs.Parser.{Parser, kind, isMark, eat, separate, untilStep, comma}
+use Rattle.notation.specs.Expressions.{Item as SeqItem, marker, expression, classBy, setBy, parseSetExpression, literalOf, inlineBy, stacked, parseRepeat, slots, sequenceOf, firstEmptyArm, choiceBy, choiceOf, parseBracedExpression, parseRuleNamed, parseInlineRuleExpression, parseSpecializeExpression, parseParenthesizedExpression, parseArguments, parseNamed, innerBy, parseExpressionInner, parseExpressionSuffix, itemBy, parseItem, parseExpressionSequence, parseArm, parseExpressionChoice, choiceAt}
+use Rattle.spelling.specs.Spelling.{quoted, spansText}
+use Rattle.spelling.specs.NormalText.{each, mark, markerSign, specializeWord, className, propsTokens, isChoice, markerTokens, expressionTokens, argumentsTokens, moreArguments, moreArms, slotsTokens, bodyTokens}
+use Rattle.spelling.proofs.Back.{decode-back, spans-back}
 use Rattle.laws.proofs.Lists.{clash, append-none, append-one}
 use Rattle.laws.proofs.Fine.{U, ReadBack}
 use Rattle.laws.proofs.Readable.{Every, GoodProp, blank, soleBlank, lone, Grade, Each, each-none, each-more, Item, item-name, item-special, item-inline, item-choice, item-sequence, item-empty, item-repeat, item-literal, item-set, item-any, item-class, InSlots, in-last, in-slot, Arm, arm-sequence, arm-item, Arms, arms-none, arms-more, Level, level-choice, level-arm, Readable, readable-up}

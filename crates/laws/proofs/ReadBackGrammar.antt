@@ -13,14 +13,14 @@ use Rattle.basics.specs.Basics.{if_then_else_, letters, same, spells, concat, l
 use Rattle.lexer.specs.Tokens.{Kind}
 use Rattle.lexer.specs.Escapes.{decodeString}
 use Rattle.tree.specs.Syntax.{Identifier, Expression, SpecializeKind, extend, specialize, RuleDeclaration, NamedNode, ContextDeclaration, ExternalTokenDeclaration, ExternalSpecializeDeclaration, ExternalPropSourceDeclaration, ExternalPropDeclaration, PrecDeclaration, ScopedSkipDeclaration, PrecKind, left, right, cut, PrecItem, Declaration, topRule, rule, tokens, localTokens, context, externalTokens, externalSpecializer, externalPropSource, precedences, mainSkip, scopedSkip, GrammarDeclaration, declarationKind, grouped, hasKind}
-use Rattle.parser.specs.Limits.{levels}
-use Rattle.parser.specs.Parser.{Parser, _>>=_, _>>_, pure, choose, here, kind, arrive, next, isEnd, isMark, nameIn, atIn, says, eat, eatAt, eatName, expect, expectName, expectString, parseIdentifier, untilStep, until, separate, commaOrNot, nothing}
-use Rattle.parser.specs.Expressions.{parseBracedExpression, choiceAt}
-use Rattle.parser.specs.Members.{Member, declaration, dialects, externalProp, detectDelim, declared, declaredDialects, declaredProp, detects}
-use Rattle.parser.specs.Declarations.{parseRule, parseSource, parseExternalTokens, parseExternalSpecializer, parseExternalPropSource, parseExternalProp, externalBy, parseExternalDeclaration, parsePrecKind, parsePrecItem, parsePrecedence, seen, parseContextDeclaration, parseSkipDeclaration, topBy, parseDirective, declarationBy, parseDeclaration, hasTop, grammarOf, parse}
-use Rattle.writer.specs.Spelling.{quoted}
-use Rattle.writer.specs.NormalText.{each, eachAfter, commas, mark, at, word, string, identifier, specializeWord, precTokens, fromTokens, expressionTokens, bodyTokens, ruleTokens, topRuleTokens, tokenPrecTokens, tokenConflictTokens, literalTokens, fallbackTokens, precItemTokens, externalSetTokens, declarationTokens, externalPropTokens}
-use Rattle.writer.proofs.Back.{decode-back}
+use Rattle.notation.specs.Limits.{levels}
+use Rattle.notation.specs.Parser.{Parser, _>>=_, _>>_, pure, choose, here, kind, arrive, next, isEnd, isMark, nameIn, atIn, says, eat, eatAt, eatName, expect, expectName, expectString, parseIdentifier, untilStep, until, separate, commaOrNot, nothing}
+use Rattle.notation.specs.Expressions.{parseBracedExpression, choiceAt}
+use Rattle.notation.specs.Members.{Member, declaration, dialects, externalProp, detectDelim, declared, declaredDialects, declaredProp, detects}
+use Rattle.notation.specs.Declarations.{parseRule, parseSource, parseExternalTokens, parseExternalSpecializer, parseExternalPropSource, parseExternalProp, externalBy, parseExternalDeclaration, parsePrecKind, parsePrecItem, parsePrecedence, seen, parseContextDeclaration, parseSkipDeclaration, topBy, parseDirective, declarationBy, parseDeclaration, hasTop, grammarOf, parse}
+use Rattle.spelling.specs.Spelling.{quoted}
+use Rattle.spelling.specs.NormalText.{each, eachAfter, commas, mark, at, word, string, identifier, specializeWord, precTokens, fromTokens, expressionTokens, bodyTokens, ruleTokens, topRuleTokens, tokenPrecTokens, tokenConflictTokens, literalTokens, fallbackTokens, precItemTokens, externalSetTokens, declarationTokens, externalPropTokens}
+use Rattle.spelling.proofs.Back.{decode-back}
 use Rattle.laws.proofs.Lists.{clash, append-none, append-one}
 use Rattle.laws.proofs.Fine.{U}
 use Rattle.laws.proofs.Readable.{Every, every-none, every-more, GoodName}

@@ -11,10 +11,10 @@ use lib.ListN.{length}
 use Rattle.basics.specs.Basics.{if_then_else_, firstOf}
 use Rattle.lexer.specs.Tokens.{Kind}
 use Rattle.tree.specs.Syntax.{PropPart, value, Prop}
-use Rattle.parser.specs.Parser.{Parser, _>>=_, _>>_, pure, choose, isMark, eat, loop, comma}
-use Rattle.parser.specs.Expressions.{partBy, parsePart, propNamed, propBy, parseProp, parseProps}
-use Rattle.writer.specs.NormalText.{each, eachAfter, mark, propName, partTokens, valueTokens, propTokens, propsTokens}
-use Rattle.writer.proofs.Back.{decode-back}
+use Rattle.notation.specs.Parser.{Parser, _>>=_, _>>_, pure, choose, isMark, eat, loop, comma}
+use Rattle.notation.specs.Expressions.{partBy, parsePart, propNamed, propBy, parseProp, parseProps}
+use Rattle.spelling.specs.NormalText.{each, eachAfter, mark, propName, partTokens, valueTokens, propTokens, propsTokens}
+use Rattle.spelling.proofs.Back.{decode-back}
 use Rattle.laws.proofs.Fine.{U}
 use Rattle.laws.proofs.Readable.{Every, GoodProp}
 use Rattle.laws.proofs.ReadBack.{Reads, bind-reads, pure-reads, choose-true, choose-false, here-reads, kind-reads, next-reads, eat-yes, eat-no, expect-reads, parseIdentifier-reads, Back, over, turn, loop-reads, Between, at-comma, at-close, commas-reads, comma-reads}

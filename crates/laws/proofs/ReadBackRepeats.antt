@@ -13,10 +13,10 @@ use lib.ListN.{length, length-append}
 use Rattle.basics.specs.Basics.{firstOf}
 use Rattle.lexer.specs.Tokens.{Kind}
 use Rattle.tree.specs.Syntax.{RepeatKind, optional, zeroOrMore, oneOrMore, Expression, special, inline, choice, sequence, empty, repeat, set, any, class}
-use Rattle.parser.specs.Limits.{repeats}
-use Rattle.parser.specs.Parser.{markIn}
-use Rattle.parser.specs.Expressions.{repeatMark, stacked, repeatBy, parseRepeat, repeated}
-use Rattle.writer.specs.NormalText.{mark, repeatSign, expressionTokens}
+use Rattle.notation.specs.Limits.{repeats}
+use Rattle.notation.specs.Parser.{markIn}
+use Rattle.notation.specs.Expressions.{repeatMark, stacked, repeatBy, parseRepeat, repeated}
+use Rattle.spelling.specs.NormalText.{mark, repeatSign, expressionTokens}
 use Rattle.laws.proofs.Fine.{U}
 use Rattle.laws.proofs.Readable.{Grade, Item, item-name, item-special, item-inline, item-choice, item-sequence, item-empty, item-repeat, item-literal, item-set, item-any, item-class}
 use Rattle.laws.proofs.ReadBack.{Reads, bind-reads, pure-reads, kind-reads, next-reads, Back, over, turn}

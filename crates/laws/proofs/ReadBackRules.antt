@@ -11,13 +11,13 @@ use Rattle.basics.specs.Basics.{firstOf, picked, orNot}
 use Rattle.lexer.specs.Tokens.{Kind}
 use Rattle.lexer.specs.Escapes.{decodeString}
 use Rattle.tree.specs.Syntax.{Identifier, Prop, Expression, RuleDeclaration, TokenReference, referred, TokenPrecDeclaration, TokenConflictDeclaration, LiteralDeclaration, NamedNode, left, right, startOf}
-use Rattle.parser.specs.Limits.{levels}
-use Rattle.parser.specs.Parser.{Parser, _>>=_, _>>_, pure, choose, isMark, eat, expect, parseIdentifier, until, comma, commaOrNot}
-use Rattle.parser.specs.Expressions.{referenceOf, parseBracedExpression, parseRuleNamed, stacked, choiceAt}
-use Rattle.parser.specs.Declarations.{parseRule, referenceBy, parseTokenReference, parseTokenPrecedence, parseTokenConflict, parseLiteral, parseNamedNode}
-use Rattle.writer.specs.Spelling.{quoted}
-use Rattle.writer.specs.NormalText.{each, eachAfter, commas, bracketed, mark, identifier, expressionTokens, bodyTokens, ruleTokens, referenceTokens, tokenPrecTokens, tokenConflictTokens, literalTokens, namedNodeTokens}
-use Rattle.writer.proofs.Back.{decode-back}
+use Rattle.notation.specs.Limits.{levels}
+use Rattle.notation.specs.Parser.{Parser, _>>=_, _>>_, pure, choose, isMark, eat, expect, parseIdentifier, until, comma, commaOrNot}
+use Rattle.notation.specs.Expressions.{referenceOf, parseBracedExpression, parseRuleNamed, stacked, choiceAt}
+use Rattle.notation.specs.Declarations.{parseRule, referenceBy, parseTokenReference, parseTokenPrecedence, parseTokenConflict, parseLiteral, parseNamedNode}
+use Rattle.spelling.specs.Spelling.{quoted}
+use Rattle.spelling.specs.NormalText.{each, eachAfter, commas, bracketed, mark, identifier, expressionTokens, bodyTokens, ruleTokens, referenceTokens, tokenPrecTokens, tokenConflictTokens, literalTokens, namedNodeTokens}
+use Rattle.spelling.proofs.Back.{decode-back}
 use Rattle.laws.proofs.Fine.{U}
 use Rattle.laws.proofs.Readable.{Every, every-none, every-more, GoodName, readable-up}
 use Rattle.laws.proofs.MeetsExpressions.{GoodRule}

@@ -11,10 +11,10 @@ use lib.ListN.{length}
 use Rattle.basics.specs.Basics.{same, firstOf, isEmpty, picked}
 use Rattle.lexer.specs.Tokens.{Kind}
 use Rattle.tree.specs.Syntax.{RuleDeclaration, TokenReference, TokenPrecDeclaration, TokenConflictDeclaration, LiteralDeclaration, NamedNode, TokenDeclaration, LocalTokenDeclaration, left, right, Declaration}
-use Rattle.parser.specs.Parser.{Parser, _>>_, isMark, eat, expect, untilStep, until, separate, nothing}
-use Rattle.parser.specs.Members.{TokenMember, tokenPrecedence, tokenConflict, tokenRule, tokenLiteral, LocalMember, localPrecedence, localRule, localFallback}
-use Rattle.parser.specs.Declarations.{tokenMemberBy, parseTokenMember, parseTokens, parseLocalMember, parseLocalTokens}
-use Rattle.writer.specs.NormalText.{each, eachAfter, commas, mark, at, ruleTokens, referenceTokens, tokenPrecTokens, tokenConflictTokens, literalTokens, namedNodeTokens, fallbackTokens, declarationTokens}
+use Rattle.notation.specs.Parser.{Parser, _>>_, isMark, eat, expect, untilStep, until, separate, nothing}
+use Rattle.notation.specs.Members.{TokenMember, tokenPrecedence, tokenConflict, tokenRule, tokenLiteral, LocalMember, localPrecedence, localRule, localFallback}
+use Rattle.notation.specs.Declarations.{tokenMemberBy, parseTokenMember, parseTokens, parseLocalMember, parseLocalTokens}
+use Rattle.spelling.specs.NormalText.{each, eachAfter, commas, mark, at, ruleTokens, referenceTokens, tokenPrecTokens, tokenConflictTokens, literalTokens, namedNodeTokens, fallbackTokens, declarationTokens}
 use Rattle.laws.proofs.Lists.{append-none, append-one}
 use Rattle.laws.proofs.Fine.{U}
 use Rattle.laws.proofs.Readable.{Every, every-none, every-more}

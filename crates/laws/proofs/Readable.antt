@@ -8,9 +8,9 @@ use mathlib.Core.Option.{Option, none, some}
 use Rattle.basics.specs.Basics.{spells}
 use Rattle.characters.specs.Spans.{Span}
 use Rattle.tree.specs.Syntax.{Identifier, PropPart, value, Prop, ConflictMarker, SpecializeKind, RepeatKind, CharClass, Expression, special, inline, choice, sequence, empty, repeat, set, any, class, Expressions, []ᴱ, _∷ᴱ_, Slots, last, slot}
-use Rattle.parser.specs.Limits.{repeats}
-use Rattle.parser.specs.Expressions.{stacked, isEmptyArm}
-use Rattle.writer.specs.NormalText.{isChoice, isSequence}
+use Rattle.notation.specs.Limits.{repeats}
+use Rattle.notation.specs.Expressions.{stacked, isEmptyArm}
+use Rattle.spelling.specs.NormalText.{isChoice, isSequence}
 use Rattle.characters.proofs.Chars.{Scalars}
 use Rattle.laws.proofs.Fine.{U, Word, ReadBack}
 

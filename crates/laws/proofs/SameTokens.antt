@@ -9,8 +9,8 @@ use mathlib.Core.Option.{Option, none, some}
 use Rattle.lexer.specs.Tokens.{Kind}
 use Rattle.tree.specs.Syntax.{Identifier, PropPart, value, Prop, ConflictMarker, Expression, special, inline, choice, sequence, empty, repeat, set, any, class, Expressions, []ᴱ, _∷ᴱ_, Slots, last, slot, RuleDeclaration, TokenReference, referred, TokenPrecDeclaration, TokenConflictDeclaration, LiteralDeclaration, NamedNode, ExternalPropDeclaration, PrecKind, PrecItem, Declaration, topRule, rule, tokens, localTokens, context, externalTokens, externalSpecializer, externalPropSource, precedences, mainSkip, scopedSkip, GrammarDeclaration}
 use Rattle.characters.specs.Utf8.{encodeAll}
-use Rattle.writer.specs.Spelling.{quoted, hexFrom, codeText, spanText, spansText, spell, spaced}
-use Rattle.writer.specs.NormalText.{each, eachAfter, commas, bracketed, mark, at, word, string, identifier, repeatSign, specializeWord, precTokens, fromTokens, detectLines, bracketIf, partTokens, valueTokens, propTokens, propsTokens, isChoice, isSequence, markerTokens, expressionTokens, argumentsTokens, moreArguments, armsTokens, moreArms, slotsTokens, bodyTokens, ruleTokens, topRuleTokens, referenceTokens, tokenPrecTokens, tokenConflictTokens, literalTokens, namedNodeTokens, fallbackTokens, precItemTokens, conflictsTokens, externalSetTokens, declarationTokens, dialectsLines, externalPropTokens, lines, linesText, normalText}
+use Rattle.spelling.specs.Spelling.{quoted, hexFrom, codeText, spanText, spansText, spell, spaced}
+use Rattle.spelling.specs.NormalText.{each, eachAfter, commas, bracketed, mark, at, word, string, identifier, repeatSign, specializeWord, precTokens, fromTokens, detectLines, bracketIf, partTokens, valueTokens, propTokens, propsTokens, isChoice, isSequence, markerTokens, expressionTokens, argumentsTokens, moreArguments, armsTokens, moreArms, slotsTokens, bodyTokens, ruleTokens, topRuleTokens, referenceTokens, tokenPrecTokens, tokenConflictTokens, literalTokens, namedNodeTokens, fallbackTokens, precItemTokens, conflictsTokens, externalSetTokens, declarationTokens, dialectsLines, externalPropTokens, lines, linesText, normalText}
 use Rattle.laws.specs.Starts.{onIdentifier, onPart, onProp, onMarker, onExpression, onExpressions, onSlots, onRule, onReference, onTokenPrec, onTokenConflict, onLiteral, onNamedNode, onFallback, onPrecItem, onExternalProp, onDeclaration, onGrammar}
 
 -- f and g put the same tokens in front of whatever follows

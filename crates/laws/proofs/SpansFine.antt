@@ -19,7 +19,7 @@ use Rattle.lexer.specs.Sets.{dash, rangeEnd, spanBy, written, reversed, overlap
 use Rattle.lexer.specs.Promise.{Ascending, a-none, a-more, later}
 use Rattle.lexer.proofs.Ordered.{apart-before, insert-here, insert-on, insert-none, met-insert, insert-ascending}
 use Rattle.lexer.proofs.Faults.{fine, fault-none, fault-on, fault-block}
-use Rattle.writer.proofs.Back.{Spelled, no-spans, one-span}
+use Rattle.spelling.proofs.Back.{Spelled, no-spans, one-span}
 use Rattle.laws.proofs.Lists.{clash}
 use Rattle.laws.proofs.Fine.{ReadBack}
 

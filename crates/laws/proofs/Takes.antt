@@ -10,7 +10,7 @@ use mathlib.Core.List.{List, [], _∷_, _++_}
 use mathlib.Core.Option.{Option, none, some}
 use Rattle.basics.specs.Basics.{if_then_else_, is}
 use Rattle.lexer.specs.Tokens.{Kind, Tokens, token, eof, bad}
-use Rattle.parser.specs.Parser.{Answer, read, refused, Parser, andThen, _>>=_, pure, refuse, choose, startOf, here, refuseHere, kindOf, kind, arrive, next, nameIn, atIn, stringIn, isEnd, isMark, says, eatIf, eat, eatName, eatAt, must, expect, expectName, taken, expectString, parseIdentifier, size, turns, loop, separate, untilStep, until, comma, commaOrNot, nothing}
+use Rattle.notation.specs.Parser.{Answer, read, refused, Parser, andThen, _>>=_, pure, refuse, choose, startOf, here, refuseHere, kindOf, kind, arrive, next, nameIn, atIn, stringIn, isEnd, isMark, says, eatIf, eat, eatName, eatAt, must, expect, expectName, taken, expectString, parseIdentifier, size, turns, loop, separate, untilStep, until, comma, commaOrNot, nothing}
 use Rattle.laws.specs.Bound.{turnsOr, Enough}
 use Rattle.laws.proofs.Lists.{clash}
 

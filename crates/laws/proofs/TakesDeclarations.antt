@@ -9,12 +9,12 @@ use Rattle.basics.specs.Basics.{spells, isEmpty, picked}
 use Rattle.error.specs.Causes.{badPrecedence, badConflict}
 use Rattle.lexer.specs.Tokens.{Tokens}
 use Rattle.tree.specs.Syntax.{SpecializeKind, TokenReference, Declaration, startOf}
-use Rattle.parser.specs.Limits.{levels}
-use Rattle.parser.specs.Parser.{Parser, _>>=_, _>>_, pure, kind, kindOf, isEnd, isMark, nameIn, atIn, stringIn, says, eat, expect, parseIdentifier, untilStep, until, commaOrNot, nothing}
-use Rattle.parser.specs.Parser as P
-use Rattle.parser.specs.Expressions.{referenceOf, parseBracedExpression, choiceAt}
-use Rattle.parser.specs.Members.{TokenMember, LocalMember, localFallback, SkipMember, ExternalMember, Member, declared}
-use Rattle.parser.specs.Declarations.{parseRule, referenceBy, parseTokenReference, parseTokenPrecedence, parseTokenConflict, parseLiteral, parseNamedNode, tokenMemberBy, parseTokenMember, parseTokens, parseLocalMember, parseLocalTokens, parseSource, parseExternalMember, parseExternalTokenSet, parseExternalTokens, parseExternalSpecializer, parseExternalPropSource, parseExternalProp, externalBy, parseExternalDeclaration, parsePrecKind, parsePrecItem, parsePrecedence, seen, parseContextDeclaration, parseSkipMember, parseSkipDeclaration, topBy, parseDirective, declarationBy, parseDeclaration, hasTop, parse}
+use Rattle.notation.specs.Limits.{levels}
+use Rattle.notation.specs.Parser.{Parser, _>>=_, _>>_, pure, kind, kindOf, isEnd, isMark, nameIn, atIn, stringIn, says, eat, expect, parseIdentifier, untilStep, until, commaOrNot, nothing}
+use Rattle.notation.specs.Parser as P
+use Rattle.notation.specs.Expressions.{referenceOf, parseBracedExpression, choiceAt}
+use Rattle.notation.specs.Members.{TokenMember, LocalMember, localFallback, SkipMember, ExternalMember, Member, declared}
+use Rattle.notation.specs.Declarations.{parseRule, referenceBy, parseTokenReference, parseTokenPrecedence, parseTokenConflict, parseLiteral, parseNamedNode, tokenMemberBy, parseTokenMember, parseTokens, parseLocalMember, parseLocalTokens, parseSource, parseExternalMember, parseExternalTokenSet, parseExternalTokens, parseExternalSpecializer, parseExternalPropSource, parseExternalProp, externalBy, parseExternalDeclaration, parsePrecKind, parsePrecItem, parsePrecedence, seen, parseContextDeclaration, parseSkipMember, parseSkipDeclaration, topBy, parseDirective, declarationBy, parseDeclaration, hasTop, parse}
 use Rattle.laws.specs.Bound.{Enough}
 use Rattle.laws.proofs.Takes.{Takes, bind-takes, pure-takes, refuse-takes, refuseHere-takes, choose-takes, if-takes, any, here-takes, kind-takes, arrive-takes, There, next-takes, next-any, at-there, string-there, eatName-takes, eatAt-takes, expect-takes, expectName-takes, expectString-takes, parseIdentifier-takes, comma-or-not, nothing-takes, items-takes, items-enough}
 use Rattle.laws.proofs.TakesExpressions.{eat-any, parseProps-takes, parseBraced-takes, parseRuleNamed-takes, parseInner-takes, choiceAt-takes}

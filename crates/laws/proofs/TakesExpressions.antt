@@ -15,9 +15,9 @@ use Rattle.lexer.specs.Tokens.{Kind, Tokens}
 use Rattle.lexer.specs.Sets.{spans, fault}
 use Rattle.tree.specs.CharClasses.{fromName}
 use Rattle.tree.specs.Syntax.{Identifier, PropPart, ConflictMarkerKind, SpecializeKind, RepeatKind, CharClass, Expression, RuleDeclaration, TokenReference}
-use Rattle.parser.specs.Limits.{repeats}
-use Rattle.parser.specs.Parser.{Parser, _>>=_, pure, choose, startOf, kindOf, markIn, nameIn, atIn, isEnd, isMark, endsSequence, eat, parseIdentifier, untilStep, comma}
-use Rattle.parser.specs.Expressions.{repeatMark, markerMark, Item, partBy, parsePart, propNamed, propBy, parseProp, parseProps, classBy, stdClassBy, setBy, parseSetExpression, referenceOf, contentBy, inlineBy, stacked, repeatBy, parseRepeat, firstEmptyArm, choiceBy, choiceOf, parseBracedExpression, parseRuleNamed, parseInlineRuleExpression, parseSpecializeExpression, parseParenthesizedExpression, parseArguments, parseNamed, innerBy, parseExpressionInner, parseExpressionSuffix, itemBy, parseItem, parseExpressionSequence, parseArm, parseExpressionChoice, choiceAt}
+use Rattle.notation.specs.Limits.{repeats}
+use Rattle.notation.specs.Parser.{Parser, _>>=_, pure, choose, startOf, kindOf, markIn, nameIn, atIn, isEnd, isMark, endsSequence, eat, parseIdentifier, untilStep, comma}
+use Rattle.notation.specs.Expressions.{repeatMark, markerMark, Item, partBy, parsePart, propNamed, propBy, parseProp, parseProps, classBy, stdClassBy, setBy, parseSetExpression, referenceOf, contentBy, inlineBy, stacked, repeatBy, parseRepeat, firstEmptyArm, choiceBy, choiceOf, parseBracedExpression, parseRuleNamed, parseInlineRuleExpression, parseSpecializeExpression, parseParenthesizedExpression, parseArguments, parseNamed, innerBy, parseExpressionInner, parseExpressionSuffix, itemBy, parseItem, parseExpressionSequence, parseArm, parseExpressionChoice, choiceAt}
 use Rattle.laws.specs.Bound.{Enough}
 use Rattle.laws.proofs.Takes.{Takes, bind-takes, pure-takes, refuse-takes, refuseHere-takes, choose-takes, if-takes, any, here-takes, kind-takes, There, next-takes, next-any, name-there, at-there, eat-takes, expect-takes, parseIdentifier-takes, comma-takes, oneIf, oneFound, oneAfter, found, loop-takes, loop-enough, spaced-takes, spaced-enough}
 

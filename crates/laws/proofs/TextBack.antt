@@ -19,10 +19,10 @@ use Rattle.lexer.specs.Tokens as T
 use Rattle.lexer.proofs.Back.{Written, a-name, an-at, a-string, a-set, a-not-set, a-mark, Laid, laid-none, laid-more, reads-none, reads-more, lex-back}
 use Rattle.lexer.proofs.Back as B
 use Rattle.tree.specs.Syntax.{Identifier, Declaration, ExternalPropDeclaration, GrammarDeclaration}
-use Rattle.parser.specs.Members.{Member, declaration, dialects, externalProp, detectDelim}
-use Rattle.parser.specs.Parser.{isEnd}
-use Rattle.writer.specs.Spelling.{spell, spaced}
-use Rattle.writer.specs.NormalText.{each, declarationTokens, dialectsLines, externalPropTokens, detectLines, lines, linesText}
+use Rattle.notation.specs.Members.{Member, declaration, dialects, externalProp, detectDelim}
+use Rattle.notation.specs.Parser.{isEnd}
+use Rattle.spelling.specs.Spelling.{spell, spaced}
+use Rattle.spelling.specs.NormalText.{each, declarationTokens, dialectsLines, externalPropTokens, detectLines, lines, linesText}
 use Rattle.laws.specs.Starts.{onTokens}
 use Rattle.laws.proofs.Lists.{clash}
 use Rattle.laws.proofs.Fine.{U}

@@ -8,7 +8,7 @@ use lib.ListN.{length, take}
 use Rattle.tree.specs.Syntax.{GrammarDeclaration}
 use Rattle.tree.specs.Stored.{grammarWords, grammarTexts}
 use Rattle.tree.specs.Equality.{agree}
-use Rattle.writer.specs.NormalText.{normalText}
+use Rattle.spelling.specs.NormalText.{normalText}
 use Rattle.grammar.specs.Reading.{Reading, tree, reading, longest}
 use Rattle.grammar.specs.Calls.{NormalAnswer, written, NormalOutcome, normal}
 

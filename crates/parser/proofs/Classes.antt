@@ -13,7 +13,7 @@ use Rattle.lexer.specs.declared.words.Class.the-variants as C
 use Rattle.lexer.proofs.Spelled.{class-codes}
 use Rattle.tree.specs.Syntax.{CharClass}
 use Rattle.tree.specs.CharClasses.{fromName, classValue as treeValue}
-use Rattle.parser.specs.Promise.{classOf}
+use Rattle.parser.specs.Classes.{classOf}
 
 class-if : (b : Bool) (c d : Class) {l r : Option CharClass} → classOf c ≡ l → classOf d ≡ r → classOf (if b then c else d) ≡ (if b then l else r)
 class-if true c d e f = e

@@ -6,8 +6,8 @@ use mathlib.Core.Bool.{Bool, true, false}
 use mathlib.Core.List.{List}
 use Rattle.lexer.specs.Tokens.{Tokens}
 use Rattle.tree.specs.Syntax.{Expression, Prop, SpecializeKind, expressions}
-use Rattle.parser.specs.Parser.{Answer, read, refused, Parser, andThen, _>>=_, pure, choose, next, eat, expect}
-use Rattle.parser.specs.Expressions.{contentBy, referenceOf, parseBracedExpression, parseSpecializeExpression, parseParenthesizedExpression, parseProps}
+use Rattle.notation.specs.Parser.{Answer, read, refused, Parser, andThen, _>>=_, pure, choose, next, eat, expect}
+use Rattle.notation.specs.Expressions.{contentBy, referenceOf, parseBracedExpression, parseSpecializeExpression, parseParenthesizedExpression, parseProps}
 use Rattle.parser.specs.Shapes.{specializeHead, secondPart, SpecializeParts, specializeParts}
 
 -- ------------------------------------------------------------------ in braces, and a second part

@@ -24,26 +24,26 @@ use Rattle.lexer.proofs.Spelled.{spells-codes}
 use Rattle.tree.specs.Promise.{repeatOf}
 use Rattle.tree.specs.Stored.{propBranch, nameBranch, markerNumber, repeatValue, named}
 use Rattle.tree.specs.Syntax.{Identifier, Prop, RepeatKind, ConflictMarkerKind}
-use Rattle.parser.specs.Limits.{repeats}
-use Rattle.parser.specs.Parser.{read, refused, andThen, _>>=_, pure, refuseHere, kind, next, expect, parseIdentifier, loop}
-use Rattle.parser.specs.Expressions.{marker, parseProps, repeatMark, repeatBy, parseRepeat}
-use Rattle.parser.specs.Promise.{stream, startIn, endIn, markOf, arrival, LiesIn, Lies, Identifies, Expects}
+use Rattle.notation.specs.Limits.{repeats}
+use Rattle.notation.specs.Parser.{read, refused, andThen, _>>=_, pure, refuseHere, kind, next, expect, parseIdentifier, loop}
+use Rattle.notation.specs.Expressions.{marker, parseProps, repeatMark, repeatBy, parseRepeat}
+use Rattle.tokens.specs.Promise.{stream, startIn, endIn, markOf, arrival, LiesIn, Lies, Identifies, Expects}
 use Rattle.parser.specs.Storing.{Lent, lent, Stores, StoresPlain, node, flat, nodesOf}
 use Rattle.parser.specs.Steps.{Onward, Ready, Gives, Lists}
 use Rattle.parser.specs.Shapes.{IsToken, repeatedOf, repeatNodes, parseParams, parseHead, Heads, parseMarker, YieldsMarker, specializeHead, SpecializeHeads, endsBy, isStd, sequenceShape, ReadyContent, StoredContent, InlinePart}
-use Rattle.parser.specs.declared.Current.{Current}
-use Rattle.parser.specs.declared.Current.the-variants.{Token, End}
-use Rattle.parser.specs.declared.Arrived.{Arrived}
-use Rattle.parser.specs.declared.Arrived.the-variants.{At, Refused}
-use Rattle.parser.specs.declared.Taken.{Taken}
-use Rattle.parser.specs.declared.Taken.the-variants as G
-use Rattle.parser.specs.declared.Part.{Part}
-use Rattle.parser.specs.declared.Part.the-variants.{From}
+use Rattle.tokens.specs.declared.Current.{Current}
+use Rattle.tokens.specs.declared.Current.the-variants.{Token, End}
+use Rattle.tokens.specs.declared.Arrived.{Arrived}
+use Rattle.tokens.specs.declared.Arrived.the-variants.{At, Refused}
+use Rattle.tokens.specs.declared.Taken.{Taken}
+use Rattle.tokens.specs.declared.Taken.the-variants as G
+use Rattle.tokens.specs.declared.Part.{Part}
+use Rattle.tokens.specs.declared.Part.the-variants.{From}
 use Rattle.parser.specs.declared.parts.Repeated.{Repeated}
 use Rattle.parser.specs.declared.parts.Repeated.the-variants as R
 use Rattle.parser.specs.declared.parts.Shape.{Shape}
 use Rattle.parser.specs.declared.parts.Shape.the-variants.{Literal, Other}
-use Rattle.parser.proofs.Stream.{start-of, mark-of}
+use Rattle.tokens.proofs.Stream.{start-of, mark-of}
 use Rattle.parser.proofs.Onward.{placed-in, onward-then, onward-least, next-onward, expect-onward}
 use Rattle.parser.proofs.Lists.{lays-then, lays-between, Listing, listing-turn, listing-over, listing-refused}
 use Rattle.parser.proofs.Ready.{Held, Got, Short, cut-length, name-got, stored-text, lays-leaf, arrived-at, arrived-not, taken-at, nodes-leaf}

@@ -23,18 +23,18 @@ use Rattle.tree.specs.Records.{[]ᴮ, _∷ᴮ_, count, Node, nodes, textsOf}
 use Rattle.tree.specs.Stored.{propBranch, nameBranch, expressionBranch}
 use Rattle.tree.specs.Syntax.{Expression, Prop, expressions}
 use Rattle.tree.proofs.Encoded.{texts-append}
-use Rattle.parser.specs.Parser.{Answer, read, refused, Parser, andThen, _>>=_, pure, next, eat, comma, size, loop, untilStep}
-use Rattle.parser.specs.Expressions.{parseBracedExpression, parseArguments, choiceAt, parseInlineRuleExpression, parseParenthesizedExpression, parseExpressionInner}
-use Rattle.parser.specs.Promise.{stream, startIn, endIn, namePart, atPart, stringPart, markOf, nameOf, arrival, LiesIn, Lies}
+use Rattle.notation.specs.Parser.{Answer, read, refused, Parser, andThen, _>>=_, pure, next, eat, comma, size, loop, untilStep}
+use Rattle.notation.specs.Expressions.{parseBracedExpression, parseArguments, choiceAt, parseInlineRuleExpression, parseParenthesizedExpression, parseExpressionInner}
+use Rattle.tokens.specs.Promise.{stream, startIn, endIn, namePart, atPart, stringPart, markOf, nameOf, arrival, LiesIn, Lies}
 use Rattle.parser.specs.Storing.{Lent, lent, Stores, node, flat, nodesOf}
 use Rattle.parser.specs.Steps.{placed, Onward, Lays, Ready, Lists, stepBy, Opens}
 use Rattle.parser.specs.Shapes.{IsToken, IsMark, Behind, isStd, Expresses, Yields, YieldsBraced, ExpressesBraced, nameArguments, Heads, inlineText, inlineBytes, InlineName, InlinePart, ReadyInline}
-use Rattle.parser.specs.declared.Current.{Current}
-use Rattle.parser.specs.declared.Current.the-variants.{Token, End}
-use Rattle.parser.specs.declared.Arrived.{Arrived}
-use Rattle.parser.specs.declared.Arrived.the-variants.{At}
-use Rattle.parser.specs.declared.Part.{Part}
-use Rattle.parser.specs.declared.Part.the-variants.{From, Nothing}
+use Rattle.tokens.specs.declared.Current.{Current}
+use Rattle.tokens.specs.declared.Current.the-variants.{Token, End}
+use Rattle.tokens.specs.declared.Arrived.{Arrived}
+use Rattle.tokens.specs.declared.Arrived.the-variants.{At}
+use Rattle.tokens.specs.declared.Part.{Part}
+use Rattle.tokens.specs.declared.Part.the-variants.{From, Nothing}
 use Rattle.parser.specs.declared.props.Opened.{Opened}
 use Rattle.parser.specs.declared.props.Opened.the-variants as P
 use Rattle.parser.specs.declared.props.Comma.the-variants.{Must}

@@ -20,15 +20,15 @@ use Rattle.lexer.specs.Promise.{partOf}
 use Rattle.lexer.specs.Promise as L
 use Rattle.lexer.proofs.Spelled.{spells-codes}
 use Rattle.tree.specs.Syntax.{Expression, Identifier, Prop, SpecializeKind, RuleDeclaration, expressions}
-use Rattle.parser.specs.Parser.{Answer, read, refused, Parser, andThen, _>>=_, _>>_, pure, refuse, choose, startOf, here, refuseHere, kindOf, kind, next, eat, until, comma, parseIdentifier}
-use Rattle.parser.specs.Expressions.{inlineBy, parseBracedExpression, parseRuleNamed, parseInlineRuleExpression, parseSpecializeExpression, parseParenthesizedExpression, parseArguments, parseNamed, innerBy, parseExpressionInner, parseProps}
-use Rattle.parser.specs.Promise.{stream, startIn, markOf, nameOf, atOf}
+use Rattle.notation.specs.Parser.{Answer, read, refused, Parser, andThen, _>>=_, _>>_, pure, refuse, choose, startOf, here, refuseHere, kindOf, kind, next, eat, until, comma, parseIdentifier}
+use Rattle.notation.specs.Expressions.{inlineBy, parseBracedExpression, parseRuleNamed, parseInlineRuleExpression, parseSpecializeExpression, parseParenthesizedExpression, parseArguments, parseNamed, innerBy, parseExpressionInner, parseProps}
+use Rattle.tokens.specs.Promise.{stream, startIn, markOf, nameOf, atOf}
 use Rattle.parser.specs.Shapes.{IsToken, stdClass, parseAny, parseLiteral, parseSet, classPart, isStd, named, nameArguments, argumentsList, Head, parseParams, parseHead}
-use Rattle.parser.specs.declared.Current.{Current}
-use Rattle.parser.specs.declared.Current.the-variants.{Token, End}
-use Rattle.parser.specs.declared.Part.{Part}
-use Rattle.parser.specs.declared.Part.the-variants.{From}
-use Rattle.parser.proofs.Stream.{start-of, mark-of}
+use Rattle.tokens.specs.declared.Current.{Current}
+use Rattle.tokens.specs.declared.Current.the-variants.{Token, End}
+use Rattle.tokens.specs.declared.Part.{Part}
+use Rattle.tokens.specs.declared.Part.the-variants.{From}
+use Rattle.tokens.proofs.Stream.{start-of, mark-of}
 
 module _ (below : Parser ℕ (Expression ℕ)) (s : List ℕ) (t : Current) where
   inner-is : parseExpressionInner below (stream s t) ≡ innerBy below (startIn t) (kindOf (stream s t)) (stream s t)

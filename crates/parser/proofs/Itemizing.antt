@@ -12,18 +12,18 @@ use Rattle.tree.specs.Records.{nodes, textsOf}
 use Rattle.tree.proofs.Encoded.{texts-append}
 use Rattle.tree.specs.Stored.{expressionBranch}
 use Rattle.tree.specs.Syntax.{ConflictMarker, Expression, expressions}
-use Rattle.parser.specs.Parser.{Answer, read, refused, Parser, eat, loop}
-use Rattle.parser.specs.Expressions.{Item, marker, expression, parseExpressionSequence, parseItem, parseArm, firstEmptyArm}
-use Rattle.parser.specs.Promise.{stream, LiesIn}
+use Rattle.notation.specs.Parser.{Answer, read, refused, Parser, eat, loop}
+use Rattle.notation.specs.Expressions.{Item, marker, expression, parseExpressionSequence, parseItem, parseArm, firstEmptyArm}
+use Rattle.tokens.specs.Promise.{stream, LiesIn}
 use Rattle.parser.specs.Storing.{Lent, lent, Stores, node, flat, nodesOf}
 use Rattle.parser.specs.Steps.{placed, Onward, Lays, Ready, Lists}
 use Rattle.parser.specs.Shapes.{itemNodes, markersIn, expressionsIn, ShownOnly, Shown, Yields, YieldsMarker, YieldsItem, YieldsEnd, YieldsItems, YieldsArms, ReadyArms, emptyOf, emptyBy, emptyFirst}
-use Rattle.parser.specs.declared.Current.{Current}
+use Rattle.tokens.specs.declared.Current.{Current}
 use Rattle.parser.specs.declared.parts.Shape.{Shape}
 use Rattle.parser.specs.declared.parts.Shape.the-variants.{Other}
 use Rattle.parser.specs.declared.parts.Empty.{Empty}
 use Rattle.parser.specs.declared.parts.Empty.the-variants as M
-use Rattle.parser.proofs.Turns.{loop-end}
+use Rattle.notation.proofs.Turns.{loop-end}
 use Rattle.parser.proofs.Stored.{stores-then}
 use Rattle.parser.proofs.Onward.{placed-in, onward-then}
 use Rattle.parser.proofs.Lists.{Listing, listing-start, listing-turn, listing-refused, lays-between, flat-none, flat-more}

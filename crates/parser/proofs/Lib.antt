@@ -1,6 +1,3 @@
-pub mod Ends
-pub mod Turns
-pub mod Stream
 pub mod Classes
 pub mod Stored
 pub mod Onward

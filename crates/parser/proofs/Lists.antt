@@ -13,15 +13,15 @@ use Rattle.error.specs.Promise.{causeNumber}
 use Rattle.lexer.specs.Tokens.{Tokens}
 use Rattle.tree.specs.Records.{Node, textsOf}
 use Rattle.tree.proofs.Encoded.{texts-append}
-use Rattle.parser.specs.Parser.{Answer, read, refused, Parser, andThen, _>>=_, pure, choose, eat, size, loop, separate, untilStep}
-use Rattle.parser.specs.Promise.{stream, LiesIn}
+use Rattle.notation.specs.Parser.{Answer, read, refused, Parser, andThen, _>>=_, pure, choose, eat, size, loop, separate, untilStep}
+use Rattle.tokens.specs.Promise.{stream, LiesIn}
 use Rattle.parser.specs.Storing.{Lent, Stores, flat}
 use Rattle.parser.specs.Steps.{placed, Onward, Lays, Lists, betweenBy, separator, opening, Opens}
-use Rattle.parser.specs.declared.Current.{Current}
+use Rattle.tokens.specs.declared.Current.{Current}
 use Rattle.parser.specs.declared.props.Opened.{Opened}
 use Rattle.parser.specs.declared.props.Opened.the-variants as O
 use Rattle.parser.specs.declared.props.Comma.{Comma}
-use Rattle.parser.proofs.Turns.{Loop, loop-start, loop-turn, loop-end, loop-refused}
+use Rattle.notation.proofs.Turns.{Loop, loop-start, loop-turn, loop-end, loop-refused}
 use Rattle.parser.proofs.Onward.{onward-here, onward-then, onward-least}
 use Rattle.parser.proofs.Stored.{stores-none, stores-then}
 

@@ -10,13 +10,13 @@ use Rattle.tree.specs.declared.ConflictMarkerKind.{ConflictMarkerKind as Declar
 use Rattle.tree.specs.Promise.{markerOf}
 use Rattle.tree.specs.Stored.{expressionBranch, markerBranch}
 use Rattle.tree.specs.Syntax.{ConflictMarkerKind}
-use Rattle.parser.specs.Parser.{Answer}
-use Rattle.parser.specs.Expressions.{Item, marker, expression, markerMark}
-use Rattle.parser.specs.Promise.{markOf}
+use Rattle.notation.specs.Parser.{Answer}
+use Rattle.notation.specs.Expressions.{Item, marker, expression, markerMark}
+use Rattle.tokens.specs.Promise.{markOf}
 use Rattle.parser.specs.Storing.{Lent, flat}
 use Rattle.parser.specs.Shapes.{IsToken, markedOf, itemNodes, YieldsItems}
-use Rattle.parser.specs.declared.Current.{Current}
-use Rattle.parser.specs.declared.Current.the-variants.{Token, End}
+use Rattle.tokens.specs.declared.Current.{Current}
+use Rattle.tokens.specs.declared.Current.the-variants.{Token, End}
 use Rattle.parser.specs.declared.parts.Shape.{Shape}
 use Rattle.parser.specs.declared.parts.Marked.{Marked}
 use Rattle.parser.specs.declared.parts.Marked.the-variants as W

@@ -16,21 +16,21 @@ use Rattle.lexer.specs.Tokens as T
 use Rattle.lexer.specs.Tokens.{Tokens}
 use Rattle.lexer.specs.Promise.{tokensAt}
 use Rattle.tree.specs.Syntax.{Identifier}
-use Rattle.parser.specs.Parser.{Answer, read, refused, andThen, _>>=_, pure, kind, here, refuseHere, arrive, next, eatIf, eat, must, expect, taken, parseIdentifier, expectString, size}
-use Rattle.parser.specs.declared.Current.{Current}
-use Rattle.parser.specs.declared.Current.the-variants.{Token, End}
-use Rattle.parser.specs.declared.Arrived.{Arrived}
-use Rattle.parser.specs.declared.Arrived.the-variants.{At}
-use Rattle.parser.specs.declared.Eaten.{Eaten}
-use Rattle.parser.specs.declared.Taken.{Taken}
-use Rattle.parser.specs.declared.Eaten.the-variants as E
-use Rattle.parser.specs.declared.Taken.the-variants as G
-use Rattle.parser.specs.declared.Part.{Part}
-use Rattle.parser.specs.declared.Part.the-variants.{From}
-use Rattle.parser.specs.Promise.{stream, startIn, endIn, textIn, markOf, nameOf, atOf, stringOf, arrival, LiesIn, Lies, Eats, Expects, Identifies, TakesString}
+use Rattle.notation.specs.Parser.{Answer, read, refused, andThen, _>>=_, pure, kind, here, refuseHere, arrive, next, eatIf, eat, must, expect, taken, parseIdentifier, expectString, size}
+use Rattle.tokens.specs.declared.Current.{Current}
+use Rattle.tokens.specs.declared.Current.the-variants.{Token, End}
+use Rattle.tokens.specs.declared.Arrived.{Arrived}
+use Rattle.tokens.specs.declared.Arrived.the-variants.{At}
+use Rattle.tokens.specs.declared.Eaten.{Eaten}
+use Rattle.tokens.specs.declared.Taken.{Taken}
+use Rattle.tokens.specs.declared.Eaten.the-variants as E
+use Rattle.tokens.specs.declared.Taken.the-variants as G
+use Rattle.tokens.specs.declared.Part.{Part}
+use Rattle.tokens.specs.declared.Part.the-variants.{From}
+use Rattle.tokens.specs.Promise.{stream, startIn, endIn, textIn, markOf, nameOf, atOf, stringOf, arrival, LiesIn, Lies, Eats, Expects, Identifies, TakesString}
 use Rattle.parser.specs.Steps.{placed, Onward}
 use Rattle.parser.specs.Shapes.{IsToken}
-use Rattle.parser.proofs.Stream.{start-of, mark-of, name-of, string-of}
+use Rattle.tokens.proofs.Stream.{start-of, mark-of, name-of, string-of}
 
 must-read : (a : Answer ℕ Bool) (us : Tokens ℕ) → andThen a must ≡ read tt us → a ≡ read true us
 unfolding andThen must pure refuseHere

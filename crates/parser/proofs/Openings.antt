@@ -9,15 +9,15 @@ use mathlib.Core.Option.{Option}
 use Rattle.error.specs.declared.Cause.{Cause}
 use Rattle.error.specs.Promise.{causeNumber}
 use Rattle.tree.specs.Records.{Node}
-use Rattle.parser.specs.Parser.{Answer, refused, Parser, andThen, _>>=_, pure, choose, eat, loop, untilStep}
-use Rattle.parser.specs.Promise.{stream, LiesIn, Eats, Expects}
+use Rattle.notation.specs.Parser.{Answer, refused, Parser, andThen, _>>=_, pure, choose, eat, loop, untilStep}
+use Rattle.tokens.specs.Promise.{stream, LiesIn, Eats, Expects}
 use Rattle.parser.specs.Storing.{Lent, lent}
 use Rattle.parser.specs.Steps.{Onward, Gives, Parses, Finds, FindsNone, ParsesTurn, Lists, ParsesList, betweenBy, separator, opening, commaStep, stepBy, ArrivesOn, Separates, Opens}
-use Rattle.parser.specs.declared.Current.{Current}
-use Rattle.parser.specs.declared.Arrived.{Arrived}
-use Rattle.parser.specs.declared.Arrived.the-variants.{At, Refused}
-use Rattle.parser.specs.declared.Eaten.{Eaten}
-use Rattle.parser.specs.declared.Eaten.the-variants as E
+use Rattle.tokens.specs.declared.Current.{Current}
+use Rattle.tokens.specs.declared.Arrived.{Arrived}
+use Rattle.tokens.specs.declared.Arrived.the-variants.{At, Refused}
+use Rattle.tokens.specs.declared.Eaten.{Eaten}
+use Rattle.tokens.specs.declared.Eaten.the-variants as E
 use Rattle.parser.specs.declared.props.Opened.{Opened}
 use Rattle.parser.specs.declared.props.Opened.the-variants as O
 use Rattle.parser.specs.declared.props.Comma.{Comma}

@@ -29,24 +29,25 @@ use Rattle.tree.specs.Promise.{classOf}
 use Rattle.tree.specs.Records.{Node, nodes}
 use Rattle.tree.specs.Stored.{flag, spanBranch, expressionBranch}
 use Rattle.tree.specs.Syntax.{Expression, CharClass}
-use Rattle.parser.specs.Parser.{Answer, read, refused, andThen, _>>=_, _>>_, pure, refuse, startOf, refuseHere, kind, next}
-use Rattle.parser.specs.Expressions.{classBy, stdClassBy, setBy, parseSetExpression, literalOf, referenceOf, stacked, isEmptyArm}
-use Rattle.parser.specs.Promise.{stream, startIn, endIn, nameOf, atOf, stringOf, textIn, arrival, LiesIn, Lies, classOf as classIn}
+use Rattle.notation.specs.Parser.{Answer, read, refused, andThen, _>>=_, _>>_, pure, refuse, startOf, refuseHere, kind, next}
+use Rattle.notation.specs.Expressions.{classBy, stdClassBy, setBy, parseSetExpression, literalOf, referenceOf, stacked, isEmptyArm}
+use Rattle.tokens.specs.Promise.{stream, startIn, endIn, nameOf, atOf, stringOf, textIn, arrival, LiesIn, Lies}
+use Rattle.parser.specs.Classes.{classOf as classIn}
 use Rattle.parser.specs.Storing.{Lent, lent, Stores, StoresPlain, StoresSpans, StoresSet, node, flat, nodesOf}
 use Rattle.parser.specs.Steps.{placed, Holds, Onward, Lays, Ready}
 use Rattle.parser.specs.Shapes.{IsToken, IsSet, Shown, Yields, Expresses, namedOf, classPart, stdClass, parseAny, parseLiteral, parseSet}
-use Rattle.parser.specs.declared.Current.{Current}
-use Rattle.parser.specs.declared.Current.the-variants.{Token, End}
-use Rattle.parser.specs.declared.Arrived.{Arrived}
-use Rattle.parser.specs.declared.Arrived.the-variants.{At, Refused}
-use Rattle.parser.specs.declared.Part.the-variants.{From, Nothing}
+use Rattle.tokens.specs.declared.Current.{Current}
+use Rattle.tokens.specs.declared.Current.the-variants.{Token, End}
+use Rattle.tokens.specs.declared.Arrived.{Arrived}
+use Rattle.tokens.specs.declared.Arrived.the-variants.{At, Refused}
+use Rattle.tokens.specs.declared.Part.the-variants.{From, Nothing}
 use Rattle.parser.specs.declared.parts.ClassNamed.{ClassNamed}
 use Rattle.parser.specs.declared.parts.ClassNamed.the-variants as N
 use Rattle.parser.specs.declared.parts.Shape.{Shape}
 use Rattle.parser.specs.declared.parts.Shape.the-variants.{Literal, Other}
 use Rattle.parser.specs.declared.parts.Expressed.{Expressed}
 use Rattle.parser.specs.declared.parts.Expressed.the-variants as E
-use Rattle.parser.proofs.Stream.{start-of, name-of, at-of}
+use Rattle.tokens.proofs.Stream.{start-of, name-of, at-of}
 use Rattle.parser.proofs.Stored.{stores-then}
 use Rattle.parser.proofs.Classes.{class-of-bytes}
 use Rattle.parser.proofs.Onward.{placed-in, start-small, onward-here}

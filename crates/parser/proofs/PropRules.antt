@@ -24,19 +24,19 @@ use Rattle.lexer.specs.Promise.{partOf}
 use Rattle.tree.specs.Syntax.{Identifier as Name, PropPart, Prop}
 use Rattle.tree.specs.Records.{Node, nodes}
 use Rattle.tree.specs.Stored.{flag, partBranch, propBranch, named}
-use Rattle.parser.specs.Parser.{Answer, read, refused, Parser, andThen, _>>=_, _>>_, pure, choose, here, kind, kindOf, refuseHere, next, eat, expect, parseIdentifier, loop}
-use Rattle.parser.specs.Expressions.{partBy, parsePart, propNamed, propBy, parseProp}
-use Rattle.parser.specs.Promise.{stream, startIn, endIn, markOf, nameOf, atOf, stringOf, arrival, LiesIn, Lies, Identifies, Expects}
+use Rattle.notation.specs.Parser.{Answer, read, refused, Parser, andThen, _>>=_, _>>_, pure, choose, here, kind, kindOf, refuseHere, next, eat, expect, parseIdentifier, loop}
+use Rattle.notation.specs.Expressions.{partBy, parsePart, propNamed, propBy, parseProp}
+use Rattle.tokens.specs.Promise.{stream, startIn, endIn, markOf, nameOf, atOf, stringOf, arrival, LiesIn, Lies, Identifies, Expects}
 use Rattle.parser.specs.Storing.{Lent, lent, Stores, node, nodesOf}
 use Rattle.parser.specs.Steps.{Onward, Ready, Gives, Finds, FindsNone, Lists, PartValue, PropName, parseValue}
-use Rattle.parser.specs.declared.Current.{Current}
-use Rattle.parser.specs.declared.Current.the-variants.{Token, End}
-use Rattle.parser.specs.declared.Arrived.{Arrived}
-use Rattle.parser.specs.declared.Arrived.the-variants.{At, Refused}
-use Rattle.parser.specs.declared.Taken.{Taken}
-use Rattle.parser.specs.declared.Taken.the-variants as G
-use Rattle.parser.specs.declared.Part.the-variants.{From, Nothing}
-use Rattle.parser.proofs.Stream.{start-of, name-of, at-of}
+use Rattle.tokens.specs.declared.Current.{Current}
+use Rattle.tokens.specs.declared.Current.the-variants.{Token, End}
+use Rattle.tokens.specs.declared.Arrived.{Arrived}
+use Rattle.tokens.specs.declared.Arrived.the-variants.{At, Refused}
+use Rattle.tokens.specs.declared.Taken.{Taken}
+use Rattle.tokens.specs.declared.Taken.the-variants as G
+use Rattle.tokens.specs.declared.Part.the-variants.{From, Nothing}
+use Rattle.tokens.proofs.Stream.{start-of, name-of, at-of}
 use Rattle.parser.proofs.Onward.{onward-then, onward-least, mark-token, next-onward, expect-onward}
 use Rattle.parser.proofs.Ready.{Held, Got, name-held, name-in, at-in, string-held, next-got, got-less, stored-text, lays-leaf, lays-parent, nodes-leaf, nodes-over, no-part, name-got, arrived-at, taken-at}
 

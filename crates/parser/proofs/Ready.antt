@@ -18,19 +18,19 @@ use Rattle.error.specs.Promise.{causeNumber}
 use Rattle.tree.specs.Records.{Row, Branch, branch, Branches, []ᴮ, _∷ᴮ_, count, Node, nodes, nodesAll, textsOf}
 use Rattle.tree.specs.Stored.{each}
 use Rattle.tree.proofs.Encoded.{texts-append}
-use Rattle.parser.specs.Parser.{Answer, read, refused, Parser, next}
-use Rattle.parser.specs.Promise.{stream, startIn, endIn, nameOf, atOf, stringOf, arrival, LiesIn, Lies, Identifies, TakesString, takenBy}
+use Rattle.notation.specs.Parser.{Answer, read, refused, Parser, next}
+use Rattle.tokens.specs.Promise.{stream, startIn, endIn, nameOf, atOf, stringOf, arrival, LiesIn, Lies, Identifies, TakesString, takenBy}
 use Rattle.parser.specs.Storing.{Lent, lent, Stores, flat, nodesOf}
 use Rattle.parser.specs.Steps.{placed, Holds, Onward, Lays, Ready, Lists}
 use Rattle.parser.specs.Shapes.{IsToken}
-use Rattle.parser.specs.declared.Current.{Current}
-use Rattle.parser.specs.declared.Current.the-variants.{Token, End}
-use Rattle.parser.specs.declared.Arrived.{Arrived}
-use Rattle.parser.specs.declared.Arrived.the-variants.{At, Refused}
-use Rattle.parser.specs.declared.Taken.{Taken}
-use Rattle.parser.specs.declared.Taken.the-variants as G
-use Rattle.parser.specs.declared.Part.{Part}
-use Rattle.parser.specs.declared.Part.the-variants.{From, Nothing}
+use Rattle.tokens.specs.declared.Current.{Current}
+use Rattle.tokens.specs.declared.Current.the-variants.{Token, End}
+use Rattle.tokens.specs.declared.Arrived.{Arrived}
+use Rattle.tokens.specs.declared.Arrived.the-variants.{At, Refused}
+use Rattle.tokens.specs.declared.Taken.{Taken}
+use Rattle.tokens.specs.declared.Taken.the-variants as G
+use Rattle.tokens.specs.declared.Part.{Part}
+use Rattle.tokens.specs.declared.Part.the-variants.{From, Nothing}
 use Rattle.parser.proofs.Stored.{stores-then}
 use Rattle.parser.proofs.Onward.{placed-in, placed-from, start-small, end-in, next-onward, name-onward, string-onward}
 use Rattle.parser.proofs.Lists.{Listing, flat-more}

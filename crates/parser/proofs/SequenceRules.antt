@@ -11,13 +11,13 @@ use Rattle.error.specs.Causes.{tooDeep, emptyArm}
 use Rattle.lexer.specs.declared.Kind.the-variants as K
 use Rattle.lexer.specs.Tokens.{Tokens}
 use Rattle.tree.specs.Syntax.{Expression, RepeatKind, ConflictMarkerKind, expressions}
-use Rattle.parser.specs.Parser.{read, refused, Parser, andThen, _>>=_, pure, refuse, choose, startOf, here, refuseHere, kindOf, kind, endsSequence, eat, loop}
-use Rattle.parser.specs.Expressions.{Item, expression, markerMark, stacked, parseRepeat, repeated, slots, sequenceOf, firstEmptyArm, choiceBy, choiceOf, parseExpressionInner, parseExpressionSuffix, itemBy, parseItem, parseExpressionSequence, parseArm, parseExpressionChoice, choiceAt}
-use Rattle.parser.specs.Promise.{stream, startIn, markOf}
+use Rattle.notation.specs.Parser.{read, refused, Parser, andThen, _>>=_, pure, refuse, choose, startOf, here, refuseHere, kindOf, kind, endsSequence, eat, loop}
+use Rattle.notation.specs.Expressions.{Item, expression, markerMark, stacked, parseRepeat, repeated, slots, sequenceOf, firstEmptyArm, choiceBy, choiceOf, parseExpressionInner, parseExpressionSuffix, itemBy, parseItem, parseExpressionSequence, parseArm, parseExpressionChoice, choiceAt}
+use Rattle.tokens.specs.Promise.{stream, startIn, markOf}
 use Rattle.parser.specs.Shapes.{endsBy, parseMarker}
-use Rattle.parser.specs.declared.Current.{Current}
-use Rattle.parser.specs.declared.Current.the-variants.{Token, End}
-use Rattle.parser.proofs.Stream.{start-of, mark-of}
+use Rattle.tokens.specs.declared.Current.{Current}
+use Rattle.tokens.specs.declared.Current.the-variants.{Token, End}
+use Rattle.tokens.proofs.Stream.{start-of, mark-of}
 
 module _ (below : Parser ℕ (Expression ℕ)) (ts : Tokens ℕ) where
   -- ------------------------------------------------------------------ repeats

@@ -13,14 +13,14 @@ use Rattle.lexer.specs.Tokens.{Tokens}
 use Rattle.tree.specs.Records.{[]ᴮ, _∷ᴮ_, count, nodes, nodesAll}
 use Rattle.tree.specs.Stored.{markerBranch, expressionBranch, expressionBranches, slotBranches}
 use Rattle.tree.specs.Syntax.{Expression, Expressions, slot, Prop, ConflictMarker, SpecializeKind, RepeatKind, startOf, expressions}
-use Rattle.parser.specs.Limits.{repeats}
-use Rattle.parser.specs.Parser.{Answer, read}
-use Rattle.parser.specs.Expressions.{Item, marker, expression, contentBy, referenceOf, stacked, repeated, slots, sequenceOf, isEmptyArm, firstEmptyArm}
-use Rattle.parser.specs.Promise.{stream}
+use Rattle.notation.specs.Limits.{repeats}
+use Rattle.notation.specs.Parser.{Answer, read}
+use Rattle.notation.specs.Expressions.{Item, marker, expression, contentBy, referenceOf, stacked, repeated, slots, sequenceOf, isEmptyArm, firstEmptyArm}
+use Rattle.tokens.specs.Promise.{stream}
 use Rattle.parser.specs.Storing.{Lent, node, flat, nodesOf}
 use Rattle.parser.specs.Steps.{placed, Onward}
 use Rattle.parser.specs.Shapes.{isBlank, Refers, Shown, Yields, repeatNodes, itemNodes, markersIn, expressionsIn, ShownOnly, contentOf, emptyOf, emptyBy, emptyFirst, sequenceShape}
-use Rattle.parser.specs.declared.Current.{Current}
+use Rattle.tokens.specs.declared.Current.{Current}
 use Rattle.parser.specs.declared.parts.Shape.{Shape}
 use Rattle.parser.specs.declared.parts.Shape.the-variants.{Name, Literal, Repeat, Blank, Other}
 use Rattle.parser.specs.declared.parts.Empty.{Empty}

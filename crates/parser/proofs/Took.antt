@@ -9,16 +9,16 @@ use mathlib.Core.Option.{Option}
 use Rattle.error.specs.declared.Cause.{Cause}
 use Rattle.error.specs.Promise.{causeNumber}
 use Rattle.tree.specs.Syntax.{Expression}
-use Rattle.parser.specs.Parser.{Answer, read, refused, eat, expect}
-use Rattle.parser.specs.Expressions.{Item}
-use Rattle.parser.specs.Promise.{stream, Eats, Expects}
+use Rattle.notation.specs.Parser.{Answer, read, refused, eat, expect}
+use Rattle.notation.specs.Expressions.{Item}
+use Rattle.tokens.specs.Promise.{stream, Eats, Expects}
 use Rattle.parser.specs.Storing.{Lent, lent}
 use Rattle.parser.specs.Shapes.{Expresses, Yields, ExpressesArms, YieldsArms, ExpressesItem, YieldsItem, YieldsMarker, YieldsEnd, ExpressesItems, YieldsItems, ParsesHead, Heads, parseHead, ParsesParts, YieldsParts, SpecializeParts, ParsesSpecializeHead, SpecializeHeads, specializeHead, StoresContent, StoredContent}
-use Rattle.parser.specs.declared.Current.{Current}
-use Rattle.parser.specs.declared.Arrived.{Arrived}
-use Rattle.parser.specs.declared.Arrived.the-variants.{At, Refused}
-use Rattle.parser.specs.declared.Eaten.{Eaten}
-use Rattle.parser.specs.declared.Eaten.the-variants as E
+use Rattle.tokens.specs.declared.Current.{Current}
+use Rattle.tokens.specs.declared.Arrived.{Arrived}
+use Rattle.tokens.specs.declared.Arrived.the-variants.{At, Refused}
+use Rattle.tokens.specs.declared.Eaten.{Eaten}
+use Rattle.tokens.specs.declared.Eaten.the-variants as E
 use Rattle.parser.specs.declared.props.Listed.{Listed}
 use Rattle.parser.specs.declared.props.Listed.the-variants as L
 use Rattle.parser.specs.declared.props.Parsed.{Parsed}

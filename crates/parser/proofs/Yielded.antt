@@ -17,14 +17,14 @@ use Rattle.tree.specs.Records.{[]ᴮ, _∷ᴮ_, count, Node, nodes, nodesAll, t
 use Rattle.tree.specs.Stored.{each, propBranch, specializeValue, expressionBranch}
 use Rattle.tree.specs.Syntax.{Expression, Prop, SpecializeKind, RepeatKind}
 use Rattle.tree.proofs.Encoded.{texts-append}
-use Rattle.parser.specs.Limits.{repeats}
-use Rattle.parser.specs.Parser.{Answer, read, refused, Parser, andThen, _>>=_, pure, kind, kindOf, markIn, refuseHere, size, turns, loop}
-use Rattle.parser.specs.Expressions.{Item, contentBy, referenceOf, repeatMark, repeatBy, parseRepeat, repeated, slots, sequenceOf}
-use Rattle.parser.specs.Promise.{stream, startIn}
+use Rattle.notation.specs.Limits.{repeats}
+use Rattle.notation.specs.Parser.{Answer, read, refused, Parser, andThen, _>>=_, pure, kind, kindOf, markIn, refuseHere, size, turns, loop}
+use Rattle.notation.specs.Expressions.{Item, contentBy, referenceOf, repeatMark, repeatBy, parseRepeat, repeated, slots, sequenceOf}
+use Rattle.tokens.specs.Promise.{stream, startIn}
 use Rattle.parser.specs.Storing.{Lent, lent, Stores, node, flat, nodesOf}
 use Rattle.parser.specs.Steps.{placed, Onward, Lays, Ready, Lists}
 use Rattle.parser.specs.Shapes.{stackOf, Refers, LiteralPart, ReadyContent, Shown, Yields, YieldsParts, SpecializeParts, SpecializeHeads, StoredContent, repeatNodes, YieldsItems, sequenceShape}
-use Rattle.parser.specs.declared.Current.{Current}
+use Rattle.tokens.specs.declared.Current.{Current}
 use Rattle.parser.specs.declared.parts.Shape.{Shape}
 use Rattle.parser.specs.declared.parts.Shape.the-variants.{Name, Literal, Repeat, Blank, Other}
 use Rattle.parser.proofs.Stored.{stores-then}

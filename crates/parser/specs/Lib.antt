@@ -1,9 +1,4 @@
-pub mod Limits
-pub mod Parser
-pub mod Expressions
-pub mod Members
-pub mod Declarations
-pub mod Promise
+pub mod Classes
 pub mod Storing
 pub mod Steps
 pub mod Shapes

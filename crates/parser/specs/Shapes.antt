@@ -20,16 +20,16 @@ use Rattle.tree.specs.Promise.{classOf, repeatOf, markerOf}
 use Rattle.tree.specs.Records.{Node, nodes, textsOf}
 use Rattle.tree.specs.Syntax.{Identifier, Prop, Expression, Expressions, CharClass, ConflictMarker, ConflictMarkerKind, RepeatKind, startOf, expressions}
 use Rattle.tree.specs.Stored.{propBranch, nameBranch, expressionBranch, markerBranch, repeatValue}
-use Rattle.parser.specs.Limits.{repeats}
-use Rattle.parser.specs.Parser.{Answer, read, refused, Parser, _>>=_, _>>_, pure, refuse, choose, kindOf, kind, atIn, nameIn, next, eat, expect, until, comma, parseIdentifier}
-use Rattle.parser.specs.Expressions.{Item, marker, expression, parseProps, classBy, stdClassBy, parseSetExpression, literalOf, contentBy, parseNamed, parseArguments, referenceOf, stacked, isEmptyArm, firstEmptyArm}
-use Rattle.parser.specs.Promise.{stream, endIn, codeIn, markOf, nameOf, LiesIn}
+use Rattle.notation.specs.Limits.{repeats}
+use Rattle.notation.specs.Parser.{Answer, read, refused, Parser, _>>=_, _>>_, pure, refuse, choose, kindOf, kind, atIn, nameIn, next, eat, expect, until, comma, parseIdentifier}
+use Rattle.notation.specs.Expressions.{Item, marker, expression, parseProps, classBy, stdClassBy, parseSetExpression, literalOf, contentBy, parseNamed, parseArguments, referenceOf, stacked, isEmptyArm, firstEmptyArm}
+use Rattle.tokens.specs.Promise.{stream, endIn, codeIn, markOf, nameOf, LiesIn}
 use Rattle.parser.specs.Storing.{Lent, lent, Stores, node, flat, nodesOf}
 use Rattle.parser.specs.Steps.{placed, Onward, Lays, Lists}
-use Rattle.parser.specs.declared.Current.{Current}
-use Rattle.parser.specs.declared.Current.the-variants.{Token, End}
-use Rattle.parser.specs.declared.Part.{Part}
-use Rattle.parser.specs.declared.Part.the-variants.{From, Nothing}
+use Rattle.tokens.specs.declared.Current.{Current}
+use Rattle.tokens.specs.declared.Current.the-variants.{Token, End}
+use Rattle.tokens.specs.declared.Part.{Part}
+use Rattle.tokens.specs.declared.Part.the-variants.{From, Nothing}
 use Rattle.parser.specs.declared.props.Listed.{Listed}
 use Rattle.parser.specs.declared.props.Listed.the-variants as Li
 use Rattle.parser.specs.declared.props.Parsed.{Parsed}

@@ -11,16 +11,16 @@ use Rattle.error.specs.Promise.{causeNumber}
 use Rattle.characters.specs.Utf8.{codes, encodeAll}
 use Rattle.tree.specs.Records.{Node, textsOf}
 use Rattle.tree.specs.Syntax.{Prop, PropPart}
-use Rattle.parser.specs.Expressions.{partBy, parsePart, parseProp}
-use Rattle.parser.specs.Parser.{Answer, read, refused, Parser, _>>=_, _>>_, pure, choose, next, kindOf, eat, loop, until, comma, commaOrNot, nothing, size}
-use Rattle.parser.specs.Promise.{stream, startIn, endIn, nameOf, atOf, arrival, LiesIn}
+use Rattle.notation.specs.Expressions.{partBy, parsePart, parseProp}
+use Rattle.notation.specs.Parser.{Answer, read, refused, Parser, _>>=_, _>>_, pure, choose, next, kindOf, eat, loop, until, comma, commaOrNot, nothing, size}
+use Rattle.tokens.specs.Promise.{stream, startIn, endIn, nameOf, atOf, arrival, LiesIn}
 use Rattle.parser.specs.Storing.{Lent, lent, Stores, flat}
-use Rattle.parser.specs.declared.Current.{Current}
-use Rattle.parser.specs.declared.Current.the-variants.{Token, End}
-use Rattle.parser.specs.declared.Arrived.{Arrived}
-use Rattle.parser.specs.declared.Arrived.the-variants.{At, Refused}
-use Rattle.parser.specs.declared.Part.{Part}
-use Rattle.parser.specs.declared.Part.the-variants.{From, Nothing}
+use Rattle.tokens.specs.declared.Current.{Current}
+use Rattle.tokens.specs.declared.Current.the-variants.{Token, End}
+use Rattle.tokens.specs.declared.Arrived.{Arrived}
+use Rattle.tokens.specs.declared.Arrived.the-variants.{At, Refused}
+use Rattle.tokens.specs.declared.Part.{Part}
+use Rattle.tokens.specs.declared.Part.the-variants.{From, Nothing}
 use Rattle.parser.specs.declared.props.Parsed.{Parsed}
 use Rattle.parser.specs.declared.props.Parsed.the-variants as P
 use Rattle.parser.specs.declared.props.Turn.{Turn}

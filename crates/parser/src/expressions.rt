@@ -1,10 +1,6 @@
 // Expressions: from `parse_rule` to `parse_expression_choice`. The functions from `braced` on call each other in a cycle:
 // with each call the rest of the text is shorter, or it is the same and the function comes later in the grammar. `left` is how many levels
 // are left inside this one.
-use crate::Arrived;
-use crate::Current;
-use crate::Eaten;
-use crate::Part;
 use crate::parts;
 use crate::parts::ArmsRead;
 use crate::parts::Empty;
@@ -22,16 +18,20 @@ use crate::props::Parsed;
 use crate::store;
 use error::Cause;
 use lexer::Kind;
+use tokens::Arrived;
+use tokens::Current;
+use tokens::Eaten;
+use tokens::Part;
 use tree::SpecializeKind;
 ghost use mathlib.Core.Path.{_≡_};
 ghost use mathlib.Core.List.{[]};
 ghost use Prim.Native.Nat.{_+_, _<_};
 ghost use Rattle.tree.specs.Promise.{specializeOf};
 ghost use Rattle.tree.specs.Stored.{expressionBranch};
-ghost use Rattle.parser.specs.Parser.{loop};
-ghost use Rattle.parser.specs.Expressions.{parseItem, parseArm, parseExpressionInner, parseExpressionSuffix, parseExpressionSequence, choiceAt, parseBracedExpression, parseInlineRuleExpression, parseSpecializeExpression, parseParenthesizedExpression, parseArguments};
-ghost use Rattle.parser.specs.Promise.{stream, startIn, nameOf, atOf};
-ghost use Rattle.parser.specs.declared.Part.the-variants.{From};
+ghost use Rattle.notation.specs.Parser.{loop};
+ghost use Rattle.notation.specs.Expressions.{parseItem, parseArm, parseExpressionInner, parseExpressionSuffix, parseExpressionSequence, choiceAt, parseBracedExpression, parseInlineRuleExpression, parseSpecializeExpression, parseParenthesizedExpression, parseArguments};
+ghost use Rattle.tokens.specs.Promise.{stream, startIn, nameOf, atOf};
+ghost use Rattle.tokens.specs.declared.Part.the-variants.{From};
 ghost use Rattle.parser.specs.Storing.{lent, nodesOf};
 ghost use Rattle.parser.specs.Steps.{Onward, Ready, ParsesList};
 ghost use Rattle.parser.specs.Shapes.{IsToken, IsMark, Behind, inlineText, InlineName, secondPart, specializeParts, ParsesParts, named, nameArguments, argumentsList, ReadyArms, Expresses, ExpressesBraced, ExpressesArms, ExpressesItem, ExpressesItems};
@@ -50,11 +50,15 @@ pub fn braced(
     ensures { λ r. ⌜ ExpressesBraced (parseBracedExpression (choiceAt left) (stream (now (source .entry)) token)) (now (source .entry)) token
         (lent n (now (records .entry)) x (now (texts .entry))) (now (records .exit)) (now (texts .exit)) r ⌝ }
 {
-    match crate::expect_punctuation(source, token, 0x7B) {
+    match tokens::expect_punctuation(source, token, 0x7B) {
         Arrived::Refused(cause, at) => Expressed::Refused(cause, at),
-        Arrived::At(u) => match parse_expression_choice(source, left, u, records, n, texts, x) {
+        Arrived::At(u) => match parse_choice(source, left, u, records, n, texts, x) {
             Expressed::Refused(cause, at) => Expressed::Refused(cause, at),
-            Expressed::Done(v, m, y, p, shape) => match crate::expect_punctuation(source, v, 0x7D) {
+            Expressed::Done(v, m, y, p, shape) => match tokens::expect_punctuation(
+                source,
+                v,
+                0x7D,
+            ) {
                 Arrived::Refused(cause, at) => Expressed::Refused(cause, at),
                 Arrived::At(t) => Expressed::Done(t, m, y, p, shape),
             },
@@ -62,7 +66,8 @@ pub fn braced(
     }
 }
 
-pub fn parse_expression_inner(
+// `parse_expression_inner`
+pub fn parse_inner(
     source: &[u8],
     left: usize,
     token: Current,
@@ -122,9 +127,9 @@ fn inner_mark(
         (lent n (now (records .entry)) x (now (texts .entry))) (now (records .exit)) (now (texts .exit)) r ⌝ }
 {
     match c {
-        0x28 => match crate::next(source, token) {
+        0x28 => match tokens::next(source, token) {
             Arrived::Refused(cause, at) => Expressed::Refused(cause, at),
-            Arrived::At(u) => parenthesized(source, left, token, u, records, n, texts, x),
+            Arrived::At(u) => parens(source, left, token, u, records, n, texts, x),
         },
         0x5B => inline_rule(
             source,
@@ -137,7 +142,7 @@ fn inner_mark(
             texts,
             x,
         ),
-        _ => Expressed::Refused(Cause::UnexpectedToken, crate::start(token)),
+        _ => Expressed::Refused(Cause::UnexpectedToken, tokens::start(token)),
     }
 }
 
@@ -184,7 +189,7 @@ fn inner_at(
     parts::parse_class(
         source,
         token,
-        crate::start(token),
+        tokens::start(token),
         a,
         e,
         records,
@@ -213,7 +218,7 @@ fn inner_name(
     if lexer::words::spells(&source[a..e], b"_") {
         return parts::parse_any(source, token, records, n, texts, x);
     }
-    match crate::next(source, token) {
+    match tokens::next(source, token) {
         Arrived::Refused(cause, at) => Expressed::Refused(cause, at),
         Arrived::At(u) => named(source, left, token, a, e, u, records, n, texts, x),
     }
@@ -236,7 +241,7 @@ fn named(
     ensures { λ r. ⌜ Expresses (named (choiceAt left) (now (source .entry)) (startIn name) a e (stream (now (source .entry)) token)) (now (source .entry)) name 1 0
         (lent n (now (records .entry)) x (now (texts .entry))) (now (records .exit)) (now (texts .exit)) r ⌝ }
 {
-    match crate::mark(token) {
+    match tokens::mark(token) {
         0x5B => inline_rule(
             source,
             left,
@@ -291,7 +296,7 @@ fn reference(
             let put = store::put_named(
                 &source[a..e],
                 30,
-                crate::start(name),
+                tokens::start(name),
                 0,
                 count,
                 records,
@@ -299,13 +304,13 @@ fn reference(
                 texts,
                 y,
             );
-            Expressed::Done(u, put.n, put.x, crate::start(name), Shape::Name)
+            Expressed::Done(u, put.n, put.x, tokens::start(name), Shape::Name)
         }
     }
 }
 
 // After `(`, which is the token `first`.
-fn parenthesized(
+fn parens(
     source: &[u8],
     left: usize,
     first: Current,
@@ -319,15 +324,19 @@ fn parenthesized(
     ensures { λ r. ⌜ Expresses (parseParenthesizedExpression (choiceAt left) (startIn first) (stream (now (source .entry)) token)) (now (source .entry)) first 1 0
         (lent n (now (records .entry)) x (now (texts .entry))) (now (records .exit)) (now (texts .exit)) r ⌝ }
 {
-    match crate::eat_punctuation(source, token, 0x29) {
+    match tokens::eat_punctuation(source, token, 0x29) {
         Eaten::Refused(cause, at) => Expressed::Refused(cause, at),
         Eaten::Yes(u) => {
-            let m = store::put_plain(records, n, 34, crate::start(first), 1, 0);
-            Expressed::Done(u, m, x, crate::start(first), Shape::Other)
+            let m = store::put_plain(records, n, 34, tokens::start(first), 1, 0);
+            Expressed::Done(u, m, x, tokens::start(first), Shape::Other)
         }
-        Eaten::No => match parse_expression_choice(source, left, token, records, n, texts, x) {
+        Eaten::No => match parse_choice(source, left, token, records, n, texts, x) {
             Expressed::Refused(cause, at) => Expressed::Refused(cause, at),
-            Expressed::Done(v, m, y, p, shape) => match crate::expect_punctuation(source, v, 0x29) {
+            Expressed::Done(v, m, y, p, shape) => match tokens::expect_punctuation(
+                source,
+                v,
+                0x29,
+            ) {
                 Arrived::Refused(cause, at) => Expressed::Refused(cause, at),
                 Arrived::At(u) => Expressed::Done(u, m, y, p, shape),
             },
@@ -349,9 +358,9 @@ fn second(
     ensures { λ r. ⌜ Expresses (secondPart (choiceAt left) (stream (now (source .entry)) token)) (now (source .entry)) token 1 0
         (lent n (now (records .entry)) x (now (texts .entry))) (now (records .exit)) (now (texts .exit)) r ⌝ }
 {
-    match parse_expression_choice(source, left, token, records, n, texts, x) {
+    match parse_choice(source, left, token, records, n, texts, x) {
         Expressed::Refused(cause, at) => Expressed::Refused(cause, at),
-        Expressed::Done(v, m, y, p, shape) => match crate::expect_punctuation(source, v, 0x3E) {
+        Expressed::Done(v, m, y, p, shape) => match tokens::expect_punctuation(source, v, 0x3E) {
             Arrived::Refused(cause, at) => Expressed::Refused(cause, at),
             Arrived::At(u) => Expressed::Done(u, m, y, p, shape),
         },
@@ -373,9 +382,9 @@ fn parts(
     ensures { λ r. ⌜ ParsesParts (specializeParts (choiceAt left) start (stream (now (source .entry)) token)) (now (source .entry)) token
         (lent n (now (records .entry)) x (now (texts .entry))) (now (records .exit)) (now (texts .exit)) r ⌝ }
 {
-    match parse_expression_choice(source, left, token, records, n, texts, x) {
+    match parse_choice(source, left, token, records, n, texts, x) {
         Expressed::Refused(cause, at) => Parsed::Refused(cause, at),
-        Expressed::Done(u, m, y, p, shape) => match crate::eat_punctuation(source, u, 0x2C) {
+        Expressed::Done(u, m, y, p, shape) => match tokens::eat_punctuation(source, u, 0x2C) {
             Eaten::Refused(cause, at) => Parsed::Refused(cause, at),
             Eaten::Yes(v) => match second(source, left, v, records, m, texts, y) {
                 Expressed::Refused(cause, at) => Parsed::Refused(cause, at),
@@ -393,7 +402,7 @@ fn parts(
                 y,
             ) {
                 Parsed::Refused(cause, at) => Parsed::Refused(cause, at),
-                Parsed::Done(_, k, z) => match crate::expect_punctuation(source, u, 0x3E) {
+                Parsed::Done(_, k, z) => match tokens::expect_punctuation(source, u, 0x3E) {
                     Arrived::Refused(cause, at) => Parsed::Refused(cause, at),
                     Arrived::At(t) => Parsed::Done(t, k, z),
                 },
@@ -422,7 +431,7 @@ fn specialize(
         Listed::Done(u, m, y, count) => match parts(
             source,
             left,
-            crate::start(token),
+            tokens::start(token),
             u,
             records,
             m,
@@ -435,11 +444,11 @@ fn specialize(
                     records,
                     k,
                     31,
-                    crate::start(token),
+                    tokens::start(token),
                     tree::specialize_value(kind),
                     count + 2,
                 );
-                Expressed::Done(v, w, z, crate::start(token), Shape::Other)
+                Expressed::Done(v, w, z, tokens::start(token), Shape::Other)
             }
         },
     }
@@ -475,19 +484,19 @@ fn inline_rule(
             Expressed::Refused(cause, at) => Expressed::Refused(cause, at),
             Expressed::Done(v, k, z, _, _) => {
                 if params != 0 {
-                    return Expressed::Refused(Cause::InlineParameters, crate::start(first));
+                    return Expressed::Refused(Cause::InlineParameters, tokens::start(first));
                 }
                 let put = parts::put_inline(
                     source,
                     name,
-                    crate::start(first),
+                    tokens::start(first),
                     count + 1,
                     records,
                     k,
                     texts,
                     z,
                 );
-                Expressed::Done(v, put.n, put.x, crate::start(first), Shape::Other)
+                Expressed::Done(v, put.n, put.x, tokens::start(first), Shape::Other)
             }
         },
     }
@@ -519,15 +528,7 @@ fn list(
             Opened::Refused(cause, at) => {
                 return Listed::Refused(cause, at);
             }
-            Opened::Item(u) => match parse_expression_choice(
-                source,
-                left,
-                u,
-                records,
-                m,
-                texts,
-                y,
-            ) {
+            Opened::Item(u) => match parse_choice(source, left, u, records, m, texts, y) {
                 Expressed::Refused(cause, at) => {
                     return Listed::Refused(cause, at);
                 }
@@ -555,14 +556,15 @@ fn arguments(
     ensures { λ r. ⌜ ParsesList (parseArguments (choiceAt left) (stream (now (source .entry)) token)) (nodesOf expressionBranch) (now (source .entry)) token 0
         (lent n (now (records .entry)) x (now (texts .entry))) (now (records .exit)) (now (texts .exit)) r ⌝ }
 {
-    match crate::eat_punctuation(source, token, 0x3C) {
+    match tokens::eat_punctuation(source, token, 0x3C) {
         Eaten::Refused(cause, at) => Listed::Refused(cause, at),
         Eaten::No => Listed::Done(token, n, x, 0),
         Eaten::Yes(u) => list(source, left, u, records, n, texts, x),
     }
 }
 
-fn parse_expression_suffix(
+// `parse_expression_suffix`
+fn parse_suffix(
     source: &[u8],
     left: usize,
     token: Current,
@@ -575,12 +577,12 @@ fn parse_expression_suffix(
     ensures { λ r. ⌜ Expresses (parseExpressionSuffix (choiceAt left) (stream (now (source .entry)) token)) (now (source .entry)) token 1 0
         (lent n (now (records .entry)) x (now (texts .entry))) (now (records .exit)) (now (texts .exit)) r ⌝ }
 {
-    match parse_expression_inner(source, left, token, records, n, texts, x) {
+    match parse_inner(source, left, token, records, n, texts, x) {
         Expressed::Refused(cause, at) => Expressed::Refused(cause, at),
         Expressed::Done(u, m, y, p, shape) => match parts::parse_repeats(
             source,
             u,
-            crate::start(token),
+            tokens::start(token),
             parts::stack(shape),
             records,
             m,
@@ -596,7 +598,7 @@ fn parse_expression_suffix(
                     v,
                     k,
                     z,
-                    crate::start(token),
+                    tokens::start(token),
                     Shape::Repeat(parts::stack(shape) + count),
                 )
             }
@@ -618,13 +620,13 @@ fn item(
     ensures { λ r. ⌜ ExpressesItem (parseItem (choiceAt left) [] (stream (now (source .entry)) token)) (now (source .entry)) token
         (lent n (now (records .entry)) x (now (texts .entry))) (now (records .exit)) (now (texts .exit)) r ⌝ }
 {
-    match parts::marker_kind(crate::mark(token)) {
+    match parts::marker_kind(tokens::mark(token)) {
         Marked::Kind(kind) => parts::parse_marker(source, token, kind, records, n, texts, x),
         Marked::Missing => {
             if parts::ends_sequence(token) {
                 return ItemRead::End;
             }
-            match parse_expression_suffix(source, left, token, records, n, texts, x) {
+            match parse_suffix(source, left, token, records, n, texts, x) {
                 Expressed::Refused(cause, at) => ItemRead::Refused(cause, at),
                 Expressed::Done(u, m, y, p, shape) => ItemRead::Expression(u, m, y, p, shape),
             }
@@ -678,7 +680,8 @@ fn items(
     }
 }
 
-fn parse_expression_sequence(
+// `parse_expression_sequence`
+fn parse_sequence(
     source: &[u8],
     left: usize,
     token: Current,
@@ -703,7 +706,7 @@ fn parse_expression_sequence(
                 records,
                 m,
                 34,
-                crate::start(token),
+                tokens::start(token),
                 0,
                 markers + expressions,
             );
@@ -711,7 +714,7 @@ fn parse_expression_sequence(
                 u,
                 k,
                 y,
-                crate::start(token),
+                tokens::start(token),
                 parts::sequence_shape(expressions),
             )
         }
@@ -738,22 +741,14 @@ fn arms(
     let mut count: usize = 0;
     let mut empty = Empty::None;
     loop {
-        match crate::eat_punctuation(source, t, 0x7C) {
+        match tokens::eat_punctuation(source, t, 0x7C) {
             Eaten::Refused(cause, at) => {
                 return ArmsRead::Refused(cause, at);
             }
             Eaten::No => {
                 return ArmsRead::Done(t, m, y, count, empty);
             }
-            Eaten::Yes(u) => match parse_expression_sequence(
-                source,
-                left,
-                u,
-                records,
-                m,
-                texts,
-                y,
-            ) {
+            Eaten::Yes(u) => match parse_sequence(source, left, u, records, m, texts, y) {
                 Expressed::Refused(cause, at) => {
                     return ArmsRead::Refused(cause, at);
                 }
@@ -769,8 +764,8 @@ fn arms(
     }
 }
 
-// A level is one entry here.
-pub fn parse_expression_choice(
+// `parse_expression_choice`: a level is one entry here.
+pub fn parse_choice(
     source: &[u8],
     left: usize,
     token: Current,
@@ -784,9 +779,9 @@ pub fn parse_expression_choice(
         (lent n (now (records .entry)) x (now (texts .entry))) (now (records .exit)) (now (texts .exit)) r ⌝ }
 {
     if left == 0 {
-        return Expressed::Refused(Cause::TooDeep, crate::start(token));
+        return Expressed::Refused(Cause::TooDeep, tokens::start(token));
     }
-    match parse_expression_sequence(source, left - 1, token, records, n, texts, x) {
+    match parse_sequence(source, left - 1, token, records, n, texts, x) {
         Expressed::Refused(cause, at) => Expressed::Refused(cause, at),
         Expressed::Done(u, m, y, p, shape) => match arms(
             source,
@@ -805,8 +800,15 @@ pub fn parse_expression_choice(
                 match parts::first_of(p, shape, empty) {
                     Empty::At(at) => Expressed::Refused(Cause::EmptyArm, at),
                     Empty::None => {
-                        let w = store::put_plain(records, k, 33, crate::start(token), 0, count + 1);
-                        Expressed::Done(v, w, z, crate::start(token), Shape::Other)
+                        let w = store::put_plain(
+                            records,
+                            k,
+                            33,
+                            tokens::start(token),
+                            0,
+                            count + 1,
+                        );
+                        Expressed::Done(v, w, z, tokens::start(token), Shape::Other)
                     }
                 }
             }

@@ -1,9 +1,4 @@
 // Parts of rules and expressions that hold no expression themselves.
-use crate::Arrived;
-use crate::Current;
-use crate::Eaten;
-use crate::Part;
-use crate::Taken;
 use crate::props;
 use crate::props::Comma;
 use crate::props::Listed;
@@ -16,6 +11,11 @@ use lexer::Kind;
 use lexer::escapes::Atom;
 use lexer::sets::Ranges;
 use lexer::words::Class;
+use tokens::Arrived;
+use tokens::Current;
+use tokens::Eaten;
+use tokens::Part;
+use tokens::Taken;
 use tree::CharClass;
 use tree::ConflictMarkerKind;
 use tree::RepeatKind;
@@ -28,11 +28,11 @@ ghost use Rattle.lexer.specs.Promise.{partOf, Part as PartIn};
 ghost use Rattle.tree.specs.CharClasses.{fromName};
 ghost use Rattle.tree.specs.Promise.{markerOf};
 ghost use Rattle.tree.specs.Stored.{nameBranch};
-ghost use Rattle.parser.specs.Limits.{repeats};
-ghost use Rattle.parser.specs.Parser.{loop};
-ghost use Rattle.parser.specs.Expressions.{repeatMark, markerMark, parseRepeat};
-ghost use Rattle.parser.specs.Promise.{stream, startIn, markOf, stringOf};
-ghost use Rattle.parser.specs.declared.Part.the-variants.{From};
+ghost use Rattle.notation.specs.Limits.{repeats};
+ghost use Rattle.notation.specs.Parser.{loop};
+ghost use Rattle.notation.specs.Expressions.{repeatMark, markerMark, parseRepeat};
+ghost use Rattle.tokens.specs.Promise.{stream, startIn, markOf, stringOf};
+ghost use Rattle.tokens.specs.declared.Part.the-variants.{From};
 ghost use Rattle.parser.specs.Storing.{lent, Stores, node, nodesOf};
 ghost use Rattle.parser.specs.Steps.{Onward, Ready, ParsesList};
 ghost use Rattle.parser.specs.Shapes.{IsToken, IsSet, namedOf, repeatedOf, markedOf, endsBy, stackOf, isBlank, emptyBy, emptyFirst, sequenceShape, repeatNodes, paramsList, parseParams, ParsesHead, classPart, stdClass, parseAny, parseLiteral, parseSet, parseMarker, isStd, inlineBytes, ReadyInline, ParsesSpecializeHead, ReadyContent, StoresContent, Expresses, ExpressesItem};
@@ -130,7 +130,7 @@ fn params_list(
             Opened::Refused(cause, at) => {
                 return Listed::Refused(cause, at);
             }
-            Opened::Item(u) => match crate::parse_identifier(source, u) {
+            Opened::Item(u) => match tokens::parse_identifier(source, u) {
                 Taken::Refused(cause, at) => {
                     return Listed::Refused(cause, at);
                 }
@@ -138,7 +138,7 @@ fn params_list(
                     let put = store::put_named(
                         &source[a..e],
                         4,
-                        crate::start(u),
+                        tokens::start(u),
                         0,
                         0,
                         records,
@@ -168,7 +168,7 @@ fn parse_params(
     ensures { λ r. ⌜ ParsesList (parseParams (stream (now (source .entry)) token)) (nodesOf (nameBranch 4)) (now (source .entry)) token 0
         (lent n (now (records .entry)) x (now (texts .entry))) (now (records .exit)) (now (texts .exit)) r ⌝ }
 {
-    match crate::eat_punctuation(source, token, 0x3C) {
+    match tokens::eat_punctuation(source, token, 0x3C) {
         Eaten::Refused(cause, at) => Listed::Refused(cause, at),
         Eaten::No => Listed::Done(token, n, x, 0),
         Eaten::Yes(u) => params_list(source, u, records, n, texts, x),
@@ -232,9 +232,9 @@ pub fn parse_class(
         (lent n (now (records .entry)) x (now (texts .entry))) (now (records .exit)) (now (texts .exit)) r ⌝ }
 {
     let ClassNamed::Class(class) = class_from_name(&source[a..e]) else {
-        return Expressed::Refused(Cause::UnexpectedToken, crate::start(token));
+        return Expressed::Refused(Cause::UnexpectedToken, tokens::start(token));
     };
-    match crate::next(source, token) {
+    match tokens::next(source, token) {
         Arrived::Refused(cause, at) => Expressed::Refused(cause, at),
         Arrived::At(u) => {
             let m = store::put_plain(records, n, 40, start, tree::class_value(class), 0);
@@ -257,13 +257,13 @@ pub fn std_class(
     ensures { λ r. ⌜ Expresses (stdClass (startIn name) (stream (now (source .entry)) token)) (now (source .entry)) name 1 0
         (lent n (now (records .entry)) x (now (texts .entry))) (now (records .exit)) (now (texts .exit)) r ⌝ }
 {
-    match crate::next(source, token) {
+    match tokens::next(source, token) {
         Arrived::Refused(cause, at) => Expressed::Refused(cause, at),
-        Arrived::At(u) => match crate::at(u) {
+        Arrived::At(u) => match tokens::at(u) {
             Part::From(a, e) => parse_class(
                 source,
                 u,
-                crate::start(name),
+                tokens::start(name),
                 a,
                 e,
                 records,
@@ -271,11 +271,11 @@ pub fn std_class(
                 texts,
                 x,
             ),
-            Part::Nothing => match crate::name(u) {
+            Part::Nothing => match tokens::name(u) {
                 Part::From(a, e) => parse_class(
                     source,
                     u,
-                    crate::start(name),
+                    tokens::start(name),
                     a,
                     e,
                     records,
@@ -283,7 +283,7 @@ pub fn std_class(
                     texts,
                     x,
                 ),
-                Part::Nothing => Expressed::Refused(Cause::UnexpectedToken, crate::start(u)),
+                Part::Nothing => Expressed::Refused(Cause::UnexpectedToken, tokens::start(u)),
             },
         },
     }
@@ -302,11 +302,11 @@ pub fn parse_any(
     ensures { λ r. ⌜ Expresses (parseAny (startIn token) (stream (now (source .entry)) token)) (now (source .entry)) token 1 0
         (lent n (now (records .entry)) x (now (texts .entry))) (now (records .exit)) (now (texts .exit)) r ⌝ }
 {
-    match crate::next(source, token) {
+    match tokens::next(source, token) {
         Arrived::Refused(cause, at) => Expressed::Refused(cause, at),
         Arrived::At(u) => {
-            let m = store::put_plain(records, n, 39, crate::start(token), 0, 0);
-            Expressed::Done(u, m, x, crate::start(token), Shape::Other)
+            let m = store::put_plain(records, n, 39, tokens::start(token), 0, 0);
+            Expressed::Done(u, m, x, tokens::start(token), Shape::Other)
         }
     }
 }
@@ -326,25 +326,25 @@ pub fn parse_literal_expression(
     ensures { λ r. ⌜ Expresses (parseLiteral (now (source .entry)) (startIn token) a e (stream (now (source .entry)) token)) (now (source .entry)) token 1 0
         (lent n (now (records .entry)) x (now (texts .entry))) (now (records .exit)) (now (texts .exit)) r ⌝ }
 {
-    match crate::next(source, token) {
+    match tokens::next(source, token) {
         Arrived::Refused(cause, at) => Expressed::Refused(cause, at),
         Arrived::At(u) => match lexer::escapes::set_atom(&source[a..e], 0) {
             Atom::End => {
-                let m = store::put_plain(records, n, 34, crate::start(token), 1, 0);
-                Expressed::Done(u, m, x, crate::start(token), Shape::Other)
+                let m = store::put_plain(records, n, 34, tokens::start(token), 1, 0);
+                Expressed::Done(u, m, x, tokens::start(token), Shape::Other)
             }
             Atom::One(_, _, _) => {
                 let put = store::put_string(
                     &source[a..e],
                     36,
-                    crate::start(token),
+                    tokens::start(token),
                     0,
                     records,
                     n,
                     texts,
                     x,
                 );
-                Expressed::Done(u, put.n, put.x, crate::start(token), Shape::Literal(a, e))
+                Expressed::Done(u, put.n, put.x, tokens::start(token), Shape::Literal(a, e))
             }
         },
     }
@@ -366,21 +366,21 @@ pub fn parse_set_expression(
     ensures { λ r. ⌜ Expresses (parseSet (now (source .entry)) (startIn token) inverted a e (stream (now (source .entry)) token)) (now (source .entry)) token 1 0
         (lent n (now (records .entry)) x (now (texts .entry))) (now (records .exit)) (now (texts .exit)) r ⌝ }
 {
-    match store::put_spans(&source[a..e], crate::start(token), records, n) {
-        Ranges::Reversed => Expressed::Refused(Cause::ReversedSpan, crate::start(token)),
-        Ranges::Overlapping => Expressed::Refused(Cause::OverlappingSpan, crate::start(token)),
-        Ranges::Sound(count) => match crate::next(source, token) {
+    match store::put_spans(&source[a..e], tokens::start(token), records, n) {
+        Ranges::Reversed => Expressed::Refused(Cause::ReversedSpan, tokens::start(token)),
+        Ranges::Overlapping => Expressed::Refused(Cause::OverlappingSpan, tokens::start(token)),
+        Ranges::Sound(count) => match tokens::next(source, token) {
             Arrived::Refused(cause, at) => Expressed::Refused(cause, at),
             Arrived::At(u) => {
                 let m = store::put_plain(
                     records,
                     n + 7 * count,
                     37,
-                    crate::start(token),
+                    tokens::start(token),
                     inverted as u32,
                     count,
                 );
-                Expressed::Done(u, m, x, crate::start(token), Shape::Other)
+                Expressed::Done(u, m, x, tokens::start(token), Shape::Other)
             }
         },
     }
@@ -419,13 +419,13 @@ pub fn parse_repeats(
     let mut m = n;
     let mut count: usize = 0;
     loop {
-        let Repeated::Kind(kind) = repeat_kind(crate::mark(t)) else {
+        let Repeated::Kind(kind) = repeat_kind(tokens::mark(t)) else {
             return Listed::Done(t, m, x, count);
         };
         if stack + count == REPEATS {
-            return Listed::Refused(Cause::TooDeep, crate::start(t));
+            return Listed::Refused(Cause::TooDeep, tokens::start(t));
         }
-        match crate::next(source, t) {
+        match tokens::next(source, t) {
             Arrived::Refused(cause, at) => {
                 return Listed::Refused(cause, at);
             }
@@ -481,7 +481,7 @@ pub fn ends_sequence(token: Current) -> bool
 {
     match token {
         Current::End(_) => true,
-        Current::Token(_, _, _) => match crate::mark(token) {
+        Current::Token(_, _, _) => match tokens::mark(token) {
             0x7D => true,
             0x29 => true,
             0x7C => true,
@@ -507,15 +507,15 @@ pub fn parse_marker(
     ensures { λ r. ⌜ ExpressesItem (parseMarker (startIn token) (markerOf kind) (stream (now (source .entry)) token)) (now (source .entry)) token
         (lent n (now (records .entry)) x (now (texts .entry))) (now (records .exit)) (now (texts .exit)) r ⌝ }
 {
-    match crate::next(source, token) {
+    match tokens::next(source, token) {
         Arrived::Refused(cause, at) => ItemRead::Refused(cause, at),
-        Arrived::At(u) => match crate::parse_identifier(source, u) {
+        Arrived::At(u) => match tokens::parse_identifier(source, u) {
             Taken::Refused(cause, at) => ItemRead::Refused(cause, at),
             Taken::Got(a, e, v) => {
                 let put = store::put_named(
                     &source[a..e],
                     tree::marker_number(kind),
-                    crate::start(token),
+                    tokens::start(token),
                     0,
                     0,
                     records,
@@ -577,11 +577,11 @@ pub fn specialize_head(
     ensures { λ r. ⌜ ParsesSpecializeHead (now (source .entry)) token
         (lent n (now (records .entry)) x (now (texts .entry))) (now (records .exit)) (now (texts .exit)) r ⌝ }
 {
-    match crate::next(source, token) {
+    match tokens::next(source, token) {
         Arrived::Refused(cause, at) => Listed::Refused(cause, at),
         Arrived::At(u) => match props::parse_props(source, u, records, n, texts, x) {
             Listed::Refused(cause, at) => Listed::Refused(cause, at),
-            Listed::Done(v, m, y, count) => match crate::expect_punctuation(source, v, 0x3C) {
+            Listed::Done(v, m, y, count) => match tokens::expect_punctuation(source, v, 0x3C) {
                 Arrived::Refused(cause, at) => Listed::Refused(cause, at),
                 Arrived::At(t) => Listed::Done(t, m, y, count),
             },
@@ -622,7 +622,7 @@ pub fn is_std(source: &[u8], a: usize, e: usize, token: Current) -> bool
     requires { ⌜ PartIn (now source) a e ⌝ }
     ensures { λ r. ⌜ r ≡ isStd (partOf (now (source .entry)) a e) token ⌝ }
 {
-    if crate::mark(token) != 0x2E {
+    if tokens::mark(token) != 0x2E {
         return false;
     }
     lexer::words::spells(&source[a..e], b"std")

@@ -1,21 +1,21 @@
 // Lists and props: `parse_props`, `parse_prop`.
-use crate::Arrived;
-use crate::Current;
-use crate::Eaten;
-use crate::Part;
-use crate::Taken;
 use crate::store;
 use error::Cause;
 use lexer::Kind;
+use tokens::Arrived;
+use tokens::Current;
+use tokens::Eaten;
+use tokens::Part;
+use tokens::Taken;
 ghost use mathlib.Core.Path.{_≡_};
 ghost use mathlib.Core.List.{[]};
 ghost use Prim.Native.Nat.{_<_};
 ghost use lib.ListN.{length};
 ghost use Rattle.tree.specs.Stored.{partBranch, propBranch};
-ghost use Rattle.parser.specs.Expressions.{parsePart, parseProp, parseProps};
-ghost use Rattle.parser.specs.Parser.{loop};
-ghost use Rattle.parser.specs.declared.Part.the-variants.{From};
-ghost use Rattle.parser.specs.Promise.{stream, markOf, stringOf, LiesIn};
+ghost use Rattle.notation.specs.Expressions.{parsePart, parseProp, parseProps};
+ghost use Rattle.notation.specs.Parser.{loop};
+ghost use Rattle.tokens.specs.declared.Part.the-variants.{From};
+ghost use Rattle.tokens.specs.Promise.{stream, markOf, stringOf, LiesIn};
 ghost use Rattle.parser.specs.Storing.{lent, nodesOf};
 ghost use Rattle.parser.specs.Steps.{Ready, Parses, ParsesTurn, ParsesList, betweenBy, commaStep, stepBy, separator as separatorD, Separates, Opens, PartValue, parseValue, PropName, propsList};
 
@@ -58,8 +58,8 @@ pub fn between(source: &[u8], token: Current, comma: Comma) -> Arrived
     ensures { λ r. ⌜ Separates (now (source .entry)) token (betweenBy comma) (commaStep comma) r ⌝ }
 {
     match comma {
-        Comma::Must => crate::expect_punctuation(source, token, 0x2C),
-        Comma::May => match crate::eat_punctuation(source, token, 0x2C) {
+        Comma::Must => tokens::expect_punctuation(source, token, 0x2C),
+        Comma::May => match tokens::eat_punctuation(source, token, 0x2C) {
             Eaten::Yes(u) => Arrived::At(u),
             Eaten::No => Arrived::At(token),
             Eaten::Refused(cause, at) => Arrived::Refused(cause, at),
@@ -84,7 +84,7 @@ pub fn opening(source: &[u8], token: Current, close: u32, comma: Comma, count: u
     requires { ⌜ LiesIn (now source) 0 token × (0 < close) ⌝ }
     ensures { λ r. ⌜ Opens (now (source .entry)) token close comma count r ⌝ }
 {
-    match crate::eat_punctuation(source, token, close) {
+    match tokens::eat_punctuation(source, token, close) {
         Eaten::Yes(u) => Opened::Closed(u),
         Eaten::Refused(cause, at) => Opened::Refused(cause, at),
         Eaten::No => match separator(source, token, comma, count) {
@@ -108,10 +108,10 @@ fn part_value(
     ensures { λ r. ⌜ ParsesTurn (parsePart [] (stream (now (source .entry)) token)) (nodesOf partBranch) (now (source .entry)) token
         (lent n (now (records .entry)) x (now (texts .entry))) (now (records .exit)) (now (texts .exit)) r ⌝ }
 {
-    match crate::next(source, token) {
+    match tokens::next(source, token) {
         Arrived::Refused(cause, at) => Turn::Refused(cause, at),
         Arrived::At(u) => {
-            let put = store::put_named(text, 6, crate::start(token), 0, 0, records, n, texts, x);
+            let put = store::put_named(text, 6, tokens::start(token), 0, 0, records, n, texts, x);
             Turn::More(u, put.n, put.x)
         }
     }
@@ -132,13 +132,13 @@ fn part_string(
     ensures { λ r. ⌜ ParsesTurn (parsePart [] (stream (now (source .entry)) token)) (nodesOf partBranch) (now (source .entry)) token
         (lent n (now (records .entry)) x (now (texts .entry))) (now (records .exit)) (now (texts .exit)) r ⌝ }
 {
-    match crate::next(source, token) {
+    match tokens::next(source, token) {
         Arrived::Refused(cause, at) => Turn::Refused(cause, at),
         Arrived::At(u) => {
             let put = store::put_string(
                 &source[a..e],
                 6,
-                crate::start(token),
+                tokens::start(token),
                 0,
                 records,
                 n,
@@ -163,17 +163,17 @@ fn part_braced(
     ensures { λ r. ⌜ ParsesTurn (parsePart [] (stream (now (source .entry)) token)) (nodesOf partBranch) (now (source .entry)) token
         (lent n (now (records .entry)) x (now (texts .entry))) (now (records .exit)) (now (texts .exit)) r ⌝ }
 {
-    match crate::next(source, token) {
+    match tokens::next(source, token) {
         Arrived::Refused(cause, at) => Turn::Refused(cause, at),
-        Arrived::At(u) => match crate::parse_identifier(source, u) {
+        Arrived::At(u) => match tokens::parse_identifier(source, u) {
             Taken::Refused(cause, at) => Turn::Refused(cause, at),
-            Taken::Got(a, e, v) => match crate::expect_punctuation(source, v, 0x7D) {
+            Taken::Got(a, e, v) => match tokens::expect_punctuation(source, v, 0x7D) {
                 Arrived::Refused(cause, at) => Turn::Refused(cause, at),
                 Arrived::At(w) => {
                     let put = store::put_named(
                         &source[a..e],
                         7,
-                        crate::start(token),
+                        tokens::start(token),
                         0,
                         0,
                         records,
@@ -273,7 +273,7 @@ fn parse_value(
     ensures { λ r. ⌜ ParsesList (parseValue (stream (now (source .entry)) token)) (nodesOf partBranch) (now (source .entry)) token 0
         (lent n (now (records .entry)) x (now (texts .entry))) (now (records .exit)) (now (texts .exit)) r ⌝ }
 {
-    match crate::eat_punctuation(source, token, 0x3D) {
+    match tokens::eat_punctuation(source, token, 0x3D) {
         Eaten::Refused(cause, at) => Listed::Refused(cause, at),
         Eaten::No => Listed::Done(token, n, x, 0),
         Eaten::Yes(u) => parse_parts(source, u, records, n, texts, x),
@@ -296,7 +296,7 @@ fn prop_named(
     ensures { λ r. ⌜ Parses (parseProp (stream (now (source .entry)) token)) (nodesOf propBranch) (now (source .entry)) token
         (lent n (now (records .entry)) x (now (texts .entry))) (now (records .exit)) (now (texts .exit)) r ⌝ }
 {
-    match crate::next(source, token) {
+    match tokens::next(source, token) {
         Arrived::Refused(cause, at) => Parsed::Refused(cause, at),
         Arrived::At(u) => match parse_value(source, u, records, n, texts, x) {
             Listed::Refused(cause, at) => Parsed::Refused(cause, at),
@@ -304,7 +304,7 @@ fn prop_named(
                 let put = store::put_named(
                     &source[a..e],
                     5,
-                    crate::start(token),
+                    tokens::start(token),
                     at,
                     count,
                     records,
@@ -330,11 +330,11 @@ fn parse_prop(
     ensures { λ r. ⌜ Parses (parseProp (stream (now (source .entry)) token)) (nodesOf propBranch) (now (source .entry)) token
         (lent n (now (records .entry)) x (now (texts .entry))) (now (records .exit)) (now (texts .exit)) r ⌝ }
 {
-    match crate::at(token) {
+    match tokens::at(token) {
         Part::From(a, e) => prop_named(source, token, 1, a, e, records, n, texts, x),
-        Part::Nothing => match crate::name(token) {
+        Part::Nothing => match tokens::name(token) {
             Part::From(a, e) => prop_named(source, token, 0, a, e, records, n, texts, x),
-            Part::Nothing => Parsed::Refused(Cause::UnexpectedToken, crate::start(token)),
+            Part::Nothing => Parsed::Refused(Cause::UnexpectedToken, tokens::start(token)),
         },
     }
 }
@@ -392,7 +392,7 @@ pub fn parse_props(
     ensures { λ r. ⌜ ParsesList (parseProps (stream (now (source .entry)) token)) (nodesOf propBranch) (now (source .entry)) token 0
         (lent n (now (records .entry)) x (now (texts .entry))) (now (records .exit)) (now (texts .exit)) r ⌝ }
 {
-    match crate::eat_punctuation(source, token, 0x5B) {
+    match tokens::eat_punctuation(source, token, 0x5B) {
         Eaten::Refused(cause, at) => Listed::Refused(cause, at),
         Eaten::No => Listed::Done(token, n, x, 0),
         Eaten::Yes(u) => props_list(source, u, records, n, texts, x),

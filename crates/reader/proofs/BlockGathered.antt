@@ -11,14 +11,14 @@ use Rattle.lexer.specs.Tokens.{Tokens}
 use Rattle.characters.specs.Promise.{written}
 use Rattle.characters.proofs.Written.{length-written}
 use Rattle.tree.specs.Records.{Branch, Node, nodes, textsOf}
-use Rattle.parser.specs.Parser.{Answer, read, refused, Parser, andThen, _>>=_, expect, eat, until}
-use Rattle.parser.specs.Declarations.{block}
-use Rattle.parser.specs.Promise.{stream, LiesIn, Expects}
+use Rattle.notation.specs.Parser.{Answer, read, refused, Parser, andThen, _>>=_, expect, eat, until}
+use Rattle.notation.specs.Declarations.{block}
+use Rattle.tokens.specs.Promise.{stream, LiesIn, Expects}
 use Rattle.parser.specs.Storing.{Lent, lent, Stores, flat}
 use Rattle.parser.specs.Steps.{Onward, Lays, betweenBy}
-use Rattle.parser.specs.declared.Current.{Current}
-use Rattle.parser.specs.declared.Arrived.{Arrived}
-use Rattle.parser.specs.declared.Arrived.the-variants.{At}
+use Rattle.tokens.specs.declared.Current.{Current}
+use Rattle.tokens.specs.declared.Arrived.{Arrived}
+use Rattle.tokens.specs.declared.Arrived.the-variants.{At}
 use Rattle.parser.specs.declared.props.Listed.{Listed}
 use Rattle.parser.specs.declared.props.Listed.the-variants.{Done, Refused}
 use Rattle.parser.proofs.Onward.{expect-onward, onward-then}

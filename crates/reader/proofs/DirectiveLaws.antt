@@ -20,25 +20,25 @@ use Rattle.lexer.specs.Escapes.{decodeString}
 use Rattle.tree.specs.Records.{Branch, count, nodes}
 use Rattle.tree.specs.Stored.{declarationBranch, expressionBranch, sourceBranch, plain, named, full, specializeValue}
 use Rattle.tree.specs.Syntax.{Identifier, TokenDeclaration, LocalTokenDeclaration, Declaration, Expression, SpecializeKind, startOf}
-use Rattle.parser.specs.Parser.{Answer, read, refused, Parser, andThen, _>>=_, pure, refuse, choose, here, refuseHere, kind, next, eatName, must, expect, expectName, parseIdentifier}
-use Rattle.parser.specs.Members.{TokenMember, tokenPrecedence, tokenConflict, tokenRule, tokenLiteral, LocalMember, localPrecedence, localRule, localFallback, externalToken, externalConflicts, SkipMember, skipTopRule, skipRule, Member, declaration, dialects}
-use Rattle.parser.specs.Declarations.{block, parseSource, parseTokens, parseLocalTokens, parseExternalTokenSet, parseExternalTokens, parseExternalSpecializer, declares, seen, parseSkipDeclaration}
-use Rattle.parser.specs.Expressions.{parseBracedExpression, choiceAt}
-use Rattle.parser.specs.Promise.{stream, startIn, endIn, markOf, arrival, LiesIn, Lies, Expects, Identifies}
+use Rattle.notation.specs.Parser.{Answer, read, refused, Parser, andThen, _>>=_, pure, refuse, choose, here, refuseHere, kind, next, eatName, must, expect, expectName, parseIdentifier}
+use Rattle.notation.specs.Members.{TokenMember, tokenPrecedence, tokenConflict, tokenRule, tokenLiteral, LocalMember, localPrecedence, localRule, localFallback, externalToken, externalConflicts, SkipMember, skipTopRule, skipRule, Member, declaration, dialects}
+use Rattle.notation.specs.Declarations.{block, parseSource, parseTokens, parseLocalTokens, parseExternalTokenSet, parseExternalTokens, parseExternalSpecializer, declares, seen, parseSkipDeclaration}
+use Rattle.notation.specs.Expressions.{parseBracedExpression, choiceAt}
+use Rattle.tokens.specs.Promise.{stream, startIn, endIn, markOf, arrival, LiesIn, Lies, Expects, Identifies}
 use Rattle.parser.specs.Storing.{Lent, lent, Stores, StoresPlain, node, flat, nodesOf}
 use Rattle.parser.specs.Steps.{Onward, Lays, Gives, Parses, betweenBy}
 use Rattle.parser.specs.Shapes.{IsToken, YieldsBraced}
-use Rattle.parser.specs.declared.Current.{Current}
-use Rattle.parser.specs.declared.Arrived.{Arrived}
-use Rattle.parser.specs.declared.Arrived.the-variants.{At, Refused}
-use Rattle.parser.specs.declared.Taken.{Taken}
-use Rattle.parser.specs.declared.Taken.the-variants as G
+use Rattle.tokens.specs.declared.Current.{Current}
+use Rattle.tokens.specs.declared.Arrived.{Arrived}
+use Rattle.tokens.specs.declared.Arrived.the-variants.{At, Refused}
+use Rattle.tokens.specs.declared.Taken.{Taken}
+use Rattle.tokens.specs.declared.Taken.the-variants as G
 use Rattle.parser.specs.declared.props.Listed.{Listed}
 use Rattle.parser.specs.declared.props.Listed.the-variants as L
 use Rattle.parser.specs.declared.props.Parsed.{Parsed}
 use Rattle.parser.specs.declared.props.Parsed.the-variants as P
 use Rattle.parser.specs.declared.parts.Shape.{Shape}
-use Rattle.parser.proofs.Stream.{start-of, mark-of}
+use Rattle.tokens.proofs.Stream.{start-of, mark-of}
 use Rattle.parser.proofs.Onward.{placed-in, onward-then, onward-least}
 use Rattle.parser.proofs.Lists.{lays-then, lays-between}
 use Rattle.parser.proofs.Ready.{lays-node, lays-parent, lays-leaf, taken-at, name-got, part-short, flat-length, nodes-branch, nodes-leaf, nodes-first, count-first}

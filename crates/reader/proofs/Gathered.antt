@@ -6,9 +6,9 @@ use mathlib.Core.List.{List}
 use Rattle.error.specs.declared.Cause.{Cause}
 use Rattle.error.specs.Promise.{causeNumber}
 use Rattle.tree.specs.Records.{Branch}
-use Rattle.parser.specs.Parser.{Answer, refused}
+use Rattle.notation.specs.Parser.{Answer, refused}
 use Rattle.parser.specs.Storing.{Lent, lent}
-use Rattle.parser.specs.declared.Current.{Current}
+use Rattle.tokens.specs.declared.Current.{Current}
 use Rattle.parser.specs.declared.props.Listed.{Listed}
 use Rattle.parser.specs.declared.props.Listed.the-variants.{Done, Refused}
 use Rattle.reader.specs.Groups.{Gathers, GathersTo}

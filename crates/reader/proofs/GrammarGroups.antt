@@ -13,8 +13,8 @@ use Rattle.characters.specs.Utf8.{encodeAll}
 use Rattle.tree.specs.Records.{Branch, branch, Branches, []ᴮ, count, nodes, nodesAll}
 use Rattle.tree.specs.Stored.{each, nameBranch, declarationBranch, externalPropBranch, flag, valued, grammarBranch}
 use Rattle.tree.specs.Syntax.{Declaration, declarationKind, ofKind, groups, grouped}
-use Rattle.parser.specs.Members.{Member, declaration, dialects, externalProp, detectDelim, declared, declaredProp, detects}
-use Rattle.parser.specs.Declarations.{grammarOf}
+use Rattle.notation.specs.Members.{Member, declaration, dialects, externalProp, detectDelim, declared, declaredProp, detects}
+use Rattle.notation.specs.Declarations.{grammarOf}
 use Rattle.parser.specs.Storing.{node, flat, nodesOf}
 use Rattle.parser.proofs.Lists.{flat-append}
 use Rattle.parser.proofs.Ready.{nodes-branch, nodes-each, count-each}

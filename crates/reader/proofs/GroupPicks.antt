@@ -12,9 +12,9 @@ use Rattle.lexer.specs.Tokens.{Tokens as Stream}
 use Rattle.tree.specs.Records.{Branch, Branches, []ᴮ, count, nodes, nodesAll}
 use Rattle.tree.specs.Stored.{each, nameBranch, ruleBranch, tokenPrecBranch, tokenConflictBranch, literalBranch, namedNodeBranch, fallbackBranches}
 use Rattle.tree.specs.Syntax.{RuleDeclaration, TokenPrecDeclaration, NamedNode}
-use Rattle.parser.specs.Parser.{Answer, read, refused, Parser, andThen, _>>=_, pure, choose, refuseHere, kindOf as kindAt, kind, atIn, says, eat, eatAt, expect, turns, loop, separate, untilStep, until, nothing}
-use Rattle.parser.specs.Members.{TokenMember, tokenPrecedence, tokenConflict, tokenRule, tokenLiteral, LocalMember, localPrecedence, localRule, localFallback, SkipMember, skipTopRule, skipRule, ExternalMember, externalToken, externalConflicts}
-use Rattle.parser.specs.Declarations.{parseRule, block, parseTokenPrecedence, parseNamedNode, parseLocalMember}
+use Rattle.notation.specs.Parser.{Answer, read, refused, Parser, andThen, _>>=_, pure, choose, refuseHere, kindOf as kindAt, kind, atIn, says, eat, eatAt, expect, turns, loop, separate, untilStep, until, nothing}
+use Rattle.notation.specs.Members.{TokenMember, tokenPrecedence, tokenConflict, tokenRule, tokenLiteral, LocalMember, localPrecedence, localRule, localFallback, SkipMember, skipTopRule, skipRule, ExternalMember, externalToken, externalConflicts}
+use Rattle.notation.specs.Declarations.{parseRule, block, parseTokenPrecedence, parseNamedNode, parseLocalMember}
 use Rattle.parser.specs.Storing.{flat, nodesOf}
 use Rattle.parser.proofs.Lists.{flat-none, flat-append}
 use Rattle.parser.proofs.Ready.{nodes-each, count-each}

@@ -10,7 +10,7 @@ use Rattle.tree.specs.Records.{Branch, Node, nodes, textsOf}
 use Rattle.tree.proofs.Encoded.{texts-append}
 use Rattle.parser.specs.Storing.{flat}
 use Rattle.parser.proofs.Lists.{flat-none, flat-more, flat-append}
-use Rattle.parser.specs.Members.{TokenMember, LocalMember, SkipMember, ExternalMember}
+use Rattle.notation.specs.Members.{TokenMember, LocalMember, SkipMember, ExternalMember}
 use Rattle.reader.specs.Groups.{chosen, allOf, groupsOf}
 use Rattle.reader.specs.Blocks.{MemberOf, kindOf, branchesOf, kindsOf}
 use Rattle.reader.specs.declared.blocks.Block.{Block}

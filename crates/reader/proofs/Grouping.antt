@@ -7,11 +7,11 @@ use mathlib.Core.List.{List, [], _∷_, _++_}
 use lib.ListN.{length, length-append, take, getD}
 use Rattle.lexer.specs.Tokens.{Tokens}
 use Rattle.tree.specs.Records.{Branch, nodes, textsOf}
-use Rattle.parser.specs.Parser.{Answer, read, refused}
-use Rattle.parser.specs.Promise.{stream, LiesIn}
+use Rattle.notation.specs.Parser.{Answer, read, refused}
+use Rattle.tokens.specs.Promise.{stream, LiesIn}
 use Rattle.parser.specs.Storing.{Lent, lent, Stores, flat}
 use Rattle.parser.specs.Steps.{placed, Onward, Lays, Ready}
-use Rattle.parser.specs.declared.Current.{Current}
+use Rattle.tokens.specs.declared.Current.{Current}
 use Rattle.parser.proofs.Onward.{placed-in}
 use Rattle.parser.proofs.Lists.{flat-append}
 use Rattle.parser.proofs.Ready.{flat-length}

@@ -17,20 +17,20 @@ use Rattle.lexer.specs.Escapes.{decodeString}
 use Rattle.tree.specs.Records.{Branch, Node, nodes}
 use Rattle.tree.specs.Stored.{nameBranch}
 use Rattle.tree.specs.Syntax.{Identifier}
-use Rattle.parser.specs.Parser.{Answer, read, refused, andThen, _>>=_, pure, choose, kindOf as kindAt, kind, atIn, says, eatAt}
-use Rattle.parser.specs.Members.{TokenMember, LocalMember, SkipMember, ExternalMember, localFallback}
-use Rattle.parser.specs.Declarations.{parseRule, names, parseTokenPrecedence, parseTokenConflict, parseLiteral, parseNamedNode, tokenMemberBy, parseTokenMember, parseLocalMember, parseExternalMember, parseSkipMember}
-use Rattle.parser.specs.Promise.{stream, atOf, stringOf, Says}
+use Rattle.notation.specs.Parser.{Answer, read, refused, andThen, _>>=_, pure, choose, kindOf as kindAt, kind, atIn, says, eatAt}
+use Rattle.notation.specs.Members.{TokenMember, LocalMember, SkipMember, ExternalMember, localFallback}
+use Rattle.notation.specs.Declarations.{parseRule, names, parseTokenPrecedence, parseTokenConflict, parseLiteral, parseNamedNode, tokenMemberBy, parseTokenMember, parseLocalMember, parseExternalMember, parseSkipMember}
+use Rattle.tokens.specs.Promise.{stream, atOf, stringOf, Says}
 use Rattle.parser.specs.Storing.{Lent, lent, Stores, flat, nodesOf}
 use Rattle.parser.specs.Steps.{Onward, Parses, Lists}
 use Rattle.parser.specs.Shapes.{IsToken}
-use Rattle.parser.specs.declared.Current.{Current}
-use Rattle.parser.specs.declared.Current.the-variants.{Token, End}
-use Rattle.parser.specs.declared.Part.{Part}
-use Rattle.parser.specs.declared.Part.the-variants.{From, Nothing}
+use Rattle.tokens.specs.declared.Current.{Current}
+use Rattle.tokens.specs.declared.Current.the-variants.{Token, End}
+use Rattle.tokens.specs.declared.Part.{Part}
+use Rattle.tokens.specs.declared.Part.the-variants.{From, Nothing}
 use Rattle.parser.specs.declared.props.Parsed.{Parsed}
 use Rattle.parser.specs.declared.props.Parsed.the-variants as P
-use Rattle.parser.proofs.Stream.{at-of, string-of}
+use Rattle.tokens.proofs.Stream.{at-of, string-of}
 use Rattle.parser.proofs.Onward.{onward-then, onward-least}
 use Rattle.parser.proofs.Lists.{flat-none, flat-more, lays-none, lays-between}
 use Rattle.reader.specs.Groups.{wants}

@@ -13,16 +13,16 @@ use Rattle.basics.specs.Basics.{isEmpty, picked, orNot}
 use Rattle.error.specs.declared.Cause.{Cause}
 use Rattle.error.specs.Promise.{causeNumber}
 use Rattle.tree.specs.Records.{Branch, nodes}
-use Rattle.parser.specs.Parser.{read, refused, andThen, pure, loop, untilStep, eat}
-use Rattle.parser.specs.Members.{LocalMember, localFallback}
-use Rattle.parser.specs.Promise.{stream, LiesIn}
+use Rattle.notation.specs.Parser.{read, refused, andThen, pure, loop, untilStep, eat}
+use Rattle.notation.specs.Members.{LocalMember, localFallback}
+use Rattle.tokens.specs.Promise.{stream, LiesIn}
 use Rattle.parser.specs.Storing.{Lent, lent, flat}
 use Rattle.parser.specs.Steps.{placed, Onward, betweenBy, Opens}
-use Rattle.parser.specs.declared.Current.{Current}
+use Rattle.tokens.specs.declared.Current.{Current}
 use Rattle.parser.specs.declared.props.Comma.{Comma}
 use Rattle.parser.specs.declared.props.Opened.{Opened}
 use Rattle.parser.specs.declared.props.Opened.the-variants as O
-use Rattle.parser.proofs.Turns.{loop-end}
+use Rattle.notation.proofs.Turns.{loop-end}
 use Rattle.parser.proofs.Onward.{placed-in, onward-then, onward-least}
 use Rattle.parser.proofs.Ready.{flat-length}
 use Rattle.parser.proofs.Lists.{lays-between, Listing, listing-start, listing-turn, listing-more, listing-refused, opens-item, opens-closed, opens-refused}

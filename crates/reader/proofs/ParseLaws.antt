@@ -17,17 +17,17 @@ use Rattle.tree.specs.Records.{Branch, Node, nodes, textsOf, words, recordsFrom
 use Rattle.tree.specs.Stored.{nameBranch, flag, grammarBranch, grammarRecords, grammarWords, grammarTexts}
 use Rattle.tree.specs.Syntax.{GrammarDeclaration}
 use Rattle.tree.proofs.Encoded.{texts-append}
-use Rattle.parser.specs.Parser.{read, refused, andThen, _>>=_, pure, choose, startOf, here, refuseHere, arrive}
-use Rattle.parser.specs.Members.{Member, declared, detects}
-use Rattle.parser.specs.Declarations.{hasTop, grammarOf, parse, parseGrammar}
-use Rattle.parser.specs.Promise.{stream, startIn, arrival, LiesIn, Lies}
+use Rattle.notation.specs.Parser.{read, refused, andThen, _>>=_, pure, choose, startOf, here, refuseHere, arrive}
+use Rattle.notation.specs.Members.{Member, declared, detects}
+use Rattle.notation.specs.Declarations.{hasTop, grammarOf, parse, parseGrammar}
+use Rattle.tokens.specs.Promise.{stream, startIn, arrival, LiesIn, Lies}
 use Rattle.parser.specs.Storing.{Lent, lent, node, flat, nodesOf}
-use Rattle.parser.specs.declared.Current.{Current}
-use Rattle.parser.specs.declared.Arrived.{Arrived}
-use Rattle.parser.specs.declared.Arrived.the-variants as A
+use Rattle.tokens.specs.declared.Current.{Current}
+use Rattle.tokens.specs.declared.Arrived.{Arrived}
+use Rattle.tokens.specs.declared.Arrived.the-variants as A
 use Rattle.parser.specs.declared.props.Listed.{Listed}
 use Rattle.parser.specs.declared.props.Listed.the-variants as L
-use Rattle.parser.proofs.Stream.{start-of}
+use Rattle.tokens.proofs.Stream.{start-of}
 use Rattle.parser.proofs.Onward.{placed-in}
 use Rattle.parser.proofs.Ready.{arrived-at, arrived-not, flat-length}
 use Rattle.reader.specs.Groups.{allOf, groupsOf}

@@ -12,16 +12,16 @@ use Rattle.basics.specs.Basics.{if_then_else_}
 use Rattle.lexer.specs.Tokens.{Tokens}
 use Rattle.lexer.specs.declared.Kind.{Kind}
 use Rattle.tree.specs.Records.{Branch, nodes}
-use Rattle.parser.specs.Parser.{read, refused, Parser, andThen, _>>=_, pure, choose, kind, kindOf, isEnd, separate, untilStep, nothing}
-use Rattle.parser.specs.Members.{Member}
-use Rattle.parser.specs.Declarations.{parseDeclaration}
-use Rattle.parser.specs.Promise.{stream, LiesIn}
+use Rattle.notation.specs.Parser.{read, refused, Parser, andThen, _>>=_, pure, choose, kind, kindOf, isEnd, separate, untilStep, nothing}
+use Rattle.notation.specs.Members.{Member}
+use Rattle.notation.specs.Declarations.{parseDeclaration}
+use Rattle.tokens.specs.Promise.{stream, LiesIn}
 use Rattle.parser.specs.Shapes.{IsToken}
 use Rattle.parser.specs.Storing.{Lent, lent, flat}
 use Rattle.parser.specs.Steps.{placed, Onward}
-use Rattle.parser.specs.declared.Current.{Current}
-use Rattle.parser.specs.declared.Current.the-variants.{Token, End}
-use Rattle.parser.proofs.Turns.{loop-end}
+use Rattle.tokens.specs.declared.Current.{Current}
+use Rattle.tokens.specs.declared.Current.the-variants.{Token, End}
+use Rattle.notation.proofs.Turns.{loop-end}
 use Rattle.parser.proofs.Onward.{placed-in}
 use Rattle.parser.proofs.Lists.{Listing, listing-start, listing-turn, listing-more, listing-refused}
 use Rattle.parser.proofs.Ready.{flat-length}

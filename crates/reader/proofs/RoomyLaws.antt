@@ -6,10 +6,10 @@ use mathlib.Core.Path.{_≡_}
 use mathlib.Core.List.{List}
 use lib.ListN.{length}
 use Rattle.tree.specs.Records.{Node}
-use Rattle.parser.specs.Promise.{LiesIn}
+use Rattle.tokens.specs.Promise.{LiesIn}
 use Rattle.parser.specs.Storing.{lent}
 use Rattle.parser.specs.Steps.{Onward, Lays, Ready}
-use Rattle.parser.specs.declared.Current.{Current}
+use Rattle.tokens.specs.declared.Current.{Current}
 use Rattle.parser.proofs.Onward.{placed-in}
 use Rattle.reader.specs.Blocks.{Roomy}
 

@@ -16,18 +16,18 @@ use Rattle.tree.specs.Stored.{nameBranch, flag, grammarBranch, grammarWords, gr
 use Rattle.error.specs.declared.Cause.{Cause}
 use Rattle.error.specs.Promise.{causeNumber}
 use Rattle.tree.specs.Syntax.{Identifier}
-use Rattle.parser.specs.Parser.{Answer, read, refused}
-use Rattle.parser.specs.Members.{Member, detects}
-use Rattle.parser.specs.Declarations.{grammarOf}
-use Rattle.parser.specs.Promise.{stream, startIn, LiesIn}
+use Rattle.notation.specs.Parser.{Answer, read, refused}
+use Rattle.notation.specs.Members.{Member, detects}
+use Rattle.notation.specs.Declarations.{grammarOf}
+use Rattle.tokens.specs.Promise.{stream, startIn, LiesIn}
 use Rattle.parser.specs.Storing.{Lent, lent, Stores, StoresPlain, node, flat, nodesOf}
-use Rattle.parser.specs.declared.Current.{Current}
+use Rattle.tokens.specs.declared.Current.{Current}
 use Rattle.parser.specs.declared.props.Listed.{Listed}
 use Rattle.parser.specs.declared.props.Listed.the-variants.{Done, Refused}
 use Rattle.parser.proofs.Onward.{placed-in, start-small}
 use Rattle.parser.proofs.Ready.{flat-length}
 use Rattle.parser.proofs.Stored.{stores-then}
-use Rattle.parser.proofs.Stream.{start-of}
+use Rattle.tokens.proofs.Stream.{start-of}
 use Rattle.reader.specs.Groups.{allOf, groupsOf}
 use Rattle.reader.specs.Blocks.{Roomy}
 use Rattle.reader.specs.Directives.{memberKind, memberBranches}

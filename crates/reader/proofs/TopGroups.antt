@@ -7,11 +7,11 @@ use mathlib.Core.List.{List, [], _∷_, _++_}
 use lib.ListN.{length, take, getD}
 use Rattle.lexer.specs.Tokens.{Tokens}
 use Rattle.tree.specs.Records.{nodes}
-use Rattle.parser.specs.Parser.{read}
-use Rattle.parser.specs.Members.{Member}
-use Rattle.parser.specs.Promise.{stream, LiesIn}
+use Rattle.notation.specs.Parser.{read}
+use Rattle.notation.specs.Members.{Member}
+use Rattle.tokens.specs.Promise.{stream, LiesIn}
 use Rattle.parser.specs.Storing.{Lent, lent, Stores, flat}
-use Rattle.parser.specs.declared.Current.{Current}
+use Rattle.tokens.specs.declared.Current.{Current}
 use Rattle.reader.specs.Groups.{allOf, groupsOf}
 use Rattle.reader.specs.Blocks.{Roomy}
 use Rattle.reader.specs.Directives.{memberKind, memberBranches}

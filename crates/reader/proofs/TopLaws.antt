@@ -18,23 +18,23 @@ use Rattle.lexer.specs.Promise.{partOf, isPlain}
 use Rattle.tree.specs.Records.{Node, nodes}
 use Rattle.tree.specs.Stored.{declarationBranch, ruleBranch, externalPropBranch, nameBranch}
 use Rattle.tree.specs.Syntax.{Identifier, Expression, SpecializeKind, RuleDeclaration, LocalTokenDeclaration, ExternalPropDeclaration, Declaration, declarationKind, hasKind}
-use Rattle.parser.specs.Parser.{Answer, read, refused, Parser, andThen, _>>=_, _>>_, pure, refuse, choose, here, kind, nameIn, next, refuseHere, says, expectName, parseIdentifier}
-use Rattle.parser.specs.Expressions.{parseBracedExpression, outermost}
-use Rattle.parser.specs.Members.{Member, declaration, dialects, externalProp, detectDelim}
-use Rattle.parser.specs.Declarations.{names, isTop, seen, topBy, parseRule, parseSource, declares, parseTokens, parseLocalTokens, parseContextDeclaration, parseExternalTokenSet, parseExternalTokens, parseExternalSpecializer, parseExternalPropSource, parseExternalProp, externalBy, parseExternalDeclaration, parsePrecedence, parseSkipDeclaration, parseDirective, declarationBy, parseDeclaration}
-use Rattle.parser.specs.Promise.{stream, startIn, endIn, nameOf, atOf, textIn, arrival, LiesIn, Lies, Says}
+use Rattle.notation.specs.Parser.{Answer, read, refused, Parser, andThen, _>>=_, _>>_, pure, refuse, choose, here, kind, nameIn, next, refuseHere, says, expectName, parseIdentifier}
+use Rattle.notation.specs.Expressions.{parseBracedExpression, outermost}
+use Rattle.notation.specs.Members.{Member, declaration, dialects, externalProp, detectDelim}
+use Rattle.notation.specs.Declarations.{names, isTop, seen, topBy, parseRule, parseSource, declares, parseTokens, parseLocalTokens, parseContextDeclaration, parseExternalTokenSet, parseExternalTokens, parseExternalSpecializer, parseExternalPropSource, parseExternalProp, externalBy, parseExternalDeclaration, parsePrecedence, parseSkipDeclaration, parseDirective, declarationBy, parseDeclaration}
+use Rattle.tokens.specs.Promise.{stream, startIn, endIn, nameOf, atOf, textIn, arrival, LiesIn, Lies, Says}
 use Rattle.parser.specs.Storing.{Lent, lent, flat, nodesOf}
 use Rattle.parser.specs.Steps.{placed, Onward, Lays, Ready, Parses, Lists}
 use Rattle.parser.specs.Shapes.{IsToken}
-use Rattle.parser.specs.declared.Current.{Current}
-use Rattle.parser.specs.declared.Current.the-variants.{Token, End}
-use Rattle.parser.specs.declared.Arrived.{Arrived}
-use Rattle.parser.specs.declared.Arrived.the-variants.{At, Refused}
-use Rattle.parser.specs.declared.Part.{Part}
-use Rattle.parser.specs.declared.Part.the-variants.{From, Nothing}
+use Rattle.tokens.specs.declared.Current.{Current}
+use Rattle.tokens.specs.declared.Current.the-variants.{Token, End}
+use Rattle.tokens.specs.declared.Arrived.{Arrived}
+use Rattle.tokens.specs.declared.Arrived.the-variants.{At, Refused}
+use Rattle.tokens.specs.declared.Part.{Part}
+use Rattle.tokens.specs.declared.Part.the-variants.{From, Nothing}
 use Rattle.parser.specs.declared.props.Parsed.{Parsed}
 use Rattle.parser.specs.declared.props.Parsed.the-variants as P
-use Rattle.parser.proofs.Stream.{start-of, name-of, at-of}
+use Rattle.tokens.proofs.Stream.{start-of, name-of, at-of}
 use Rattle.parser.proofs.Onward.{start-small, next-onward, onward-then, onward-least}
 use Rattle.parser.proofs.Lists.{flat-none, lays-none, lays-between}
 use Rattle.parser.proofs.Ready.{ready-step, arrived-at, arrived-not}

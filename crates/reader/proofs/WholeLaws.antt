@@ -14,16 +14,16 @@ use Rattle.error.specs.Promise.{causeNumber}
 use Rattle.tree.specs.Records.{nodes, textsOf}
 use Rattle.tree.specs.Stored.{nameBranch}
 use Rattle.tree.specs.Syntax.{Identifier, Declaration, declarationKind, hasKind}
-use Rattle.parser.specs.Parser.{Answer, read, refused, next}
-use Rattle.parser.specs.Members.{Member, declaration, dialects, externalProp, detectDelim, declared, declaredDialects, detects}
-use Rattle.parser.specs.Declarations.{names, seen, isTop, hasTop, parseDeclaration}
-use Rattle.parser.specs.Promise.{stream, endIn, arrival, LiesIn, Lies}
+use Rattle.notation.specs.Parser.{Answer, read, refused, next}
+use Rattle.notation.specs.Members.{Member, declaration, dialects, externalProp, detectDelim, declared, declaredDialects, detects}
+use Rattle.notation.specs.Declarations.{names, seen, isTop, hasTop, parseDeclaration}
+use Rattle.tokens.specs.Promise.{stream, endIn, arrival, LiesIn, Lies}
 use Rattle.parser.specs.Shapes.{IsToken}
 use Rattle.parser.specs.Storing.{Lent, lent, nodesOf}
 use Rattle.parser.specs.Steps.{Ready, ParsesList}
-use Rattle.parser.specs.declared.Current.{Current}
-use Rattle.parser.specs.declared.Arrived.{Arrived}
-use Rattle.parser.specs.declared.Arrived.the-variants as A
+use Rattle.tokens.specs.declared.Current.{Current}
+use Rattle.tokens.specs.declared.Arrived.{Arrived}
+use Rattle.tokens.specs.declared.Arrived.the-variants as A
 use Rattle.parser.specs.declared.props.Listed.{Listed}
 use Rattle.parser.specs.declared.props.Listed.the-variants as L
 use Rattle.parser.proofs.Stored.{stores-none}

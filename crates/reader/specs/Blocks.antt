@@ -10,13 +10,13 @@ use Rattle.error.specs.Promise.{causeNumber}
 use Rattle.tree.specs.Records.{Branch, nodes}
 use Rattle.tree.specs.Stored.{nameBranch, ruleBranch, tokenPrecBranch, tokenConflictBranch, literalBranch, namedNodeBranch}
 use Rattle.tree.specs.Syntax.{Identifier}
-use Rattle.parser.specs.Parser.{Answer, read, refused, Parser, eat, until}
-use Rattle.parser.specs.Members.{TokenMember, LocalMember, SkipMember, ExternalMember, localFallback}
-use Rattle.parser.specs.Declarations.{parseTokenMember, parseLocalMember, parseExternalMember, parseSkipMember}
-use Rattle.parser.specs.Promise.{stream, LiesIn}
+use Rattle.notation.specs.Parser.{Answer, read, refused, Parser, eat, until}
+use Rattle.notation.specs.Members.{TokenMember, LocalMember, SkipMember, ExternalMember, localFallback}
+use Rattle.notation.specs.Declarations.{parseTokenMember, parseLocalMember, parseExternalMember, parseSkipMember}
+use Rattle.tokens.specs.Promise.{stream, LiesIn}
 use Rattle.parser.specs.Storing.{Lent, lent, flat}
 use Rattle.parser.specs.Steps.{placed, Onward, Lays, betweenBy}
-use Rattle.parser.specs.declared.Current.{Current}
+use Rattle.tokens.specs.declared.Current.{Current}
 use Rattle.parser.specs.declared.props.Comma.{Comma}
 use Rattle.parser.specs.declared.props.Comma.the-variants.{May, No}
 use Rattle.parser.specs.declared.props.Parsed.{Parsed}

@@ -12,13 +12,13 @@ use Rattle.lexer.specs.Tokens.{Tokens}
 use Rattle.tree.specs.Records.{Branch, Node, nodes}
 use Rattle.tree.specs.Stored.{declarationBranch, externalPropBranch, sourceBranch}
 use Rattle.tree.specs.Syntax.{Identifier, TokenDeclaration, LocalTokenDeclaration, PrecDeclaration, SpecializeKind, extend, specialize, Declaration, declarationKind}
-use Rattle.parser.specs.Parser.{Answer, read, refused, Parser, _>>=_, _>>_, pure, kind, nameIn, next, nothing, expectName, parseIdentifier}
-use Rattle.parser.specs.Members.{SkipMember, skipTopRule, Member, declaration, dialects, externalProp, detectDelim}
-use Rattle.parser.specs.Declarations.{names, isTop, seen, block, topBy, parseLocalTokens, parseExternalProp, parseSource, parseSkipMember}
-use Rattle.parser.specs.Promise.{stream}
+use Rattle.notation.specs.Parser.{Answer, read, refused, Parser, _>>=_, _>>_, pure, kind, nameIn, next, nothing, expectName, parseIdentifier}
+use Rattle.notation.specs.Members.{SkipMember, skipTopRule, Member, declaration, dialects, externalProp, detectDelim}
+use Rattle.notation.specs.Declarations.{names, isTop, seen, block, topBy, parseLocalTokens, parseExternalProp, parseSource, parseSkipMember}
+use Rattle.tokens.specs.Promise.{stream}
 use Rattle.parser.specs.Storing.{Lent, lent, node, flat}
 use Rattle.parser.specs.Steps.{Onward, Lays, betweenBy}
-use Rattle.parser.specs.declared.Current.{Current}
+use Rattle.tokens.specs.declared.Current.{Current}
 use Rattle.parser.specs.declared.props.Parsed.{Parsed}
 use Rattle.parser.specs.declared.props.Parsed.the-variants as P
 use Rattle.reader.specs.Groups.{groupsOf}

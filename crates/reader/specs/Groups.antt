@@ -9,11 +9,11 @@ use lib.ListN.{length}
 use Rattle.basics.specs.Basics.{if_then_else_}
 use Rattle.error.specs.Promise.{causeNumber}
 use Rattle.tree.specs.Records.{Branch, nodes, textsOf}
-use Rattle.parser.specs.Parser.{Answer, read, refused}
-use Rattle.parser.specs.Promise.{stream}
+use Rattle.notation.specs.Parser.{Answer, read, refused}
+use Rattle.tokens.specs.Promise.{stream}
 use Rattle.parser.specs.Storing.{Lent, lent, flat}
 use Rattle.parser.specs.Steps.{placed, Onward, Lays}
-use Rattle.parser.specs.declared.Current.{Current}
+use Rattle.tokens.specs.declared.Current.{Current}
 use Rattle.parser.specs.declared.props.Listed.{Listed}
 use Rattle.parser.specs.declared.props.Listed.the-variants.{Done, Refused}
 

@@ -14,14 +14,14 @@ use Rattle.lexer.specs.Promise.{tokensAt}
 use Rattle.tree.specs.Records.{nodes, textsOf}
 use Rattle.tree.specs.Stored.{nameBranch, flag, grammarWords, grammarTexts}
 use Rattle.tree.specs.Syntax.{Identifier, GrammarDeclaration}
-use Rattle.parser.specs.Parser.{Answer, read, refused, Parser, _>>=_, pure, kind, isEnd, until, nothing, arrive}
-use Rattle.parser.specs.Members.{Member, dialects, declared, declaredDialects, detects}
-use Rattle.parser.specs.Declarations.{names, hasTop, parseDeclaration, parseGrammar, grammarOf}
-use Rattle.parser.specs.Promise.{stream, startIn, LiesIn}
+use Rattle.notation.specs.Parser.{Answer, read, refused, Parser, _>>=_, pure, kind, isEnd, until, nothing, arrive}
+use Rattle.notation.specs.Members.{Member, dialects, declared, declaredDialects, detects}
+use Rattle.notation.specs.Declarations.{names, hasTop, parseDeclaration, parseGrammar, grammarOf}
+use Rattle.tokens.specs.Promise.{stream, startIn, LiesIn}
 use Rattle.parser.specs.Shapes.{IsToken}
 use Rattle.parser.specs.Storing.{Lent, lent, Stores, flat, nodesOf}
 use Rattle.parser.specs.Steps.{placed, Onward, Lays}
-use Rattle.parser.specs.declared.Current.{Current}
+use Rattle.tokens.specs.declared.Current.{Current}
 use Rattle.parser.specs.declared.props.Listed.{Listed}
 use Rattle.parser.specs.declared.props.Listed.the-variants as L
 use Rattle.reader.specs.Groups.{chosen, allOf, groupsOf, MeasuredAs}

@@ -2,21 +2,21 @@
 use declarations::blocks;
 use declarations::rules;
 use error::Cause;
-use parser::Arrived;
-use parser::Current;
-use parser::Eaten;
-use parser::Part;
 use parser::props;
 use parser::props::Comma;
 use parser::props::Listed;
 use parser::props::Opened;
 use parser::props::Parsed;
+use tokens::Arrived;
+use tokens::Current;
+use tokens::Eaten;
+use tokens::Part;
 ghost use mathlib.Core.Path.{_≡_};
 ghost use lib.ListN.{getD};
-ghost use Rattle.parser.specs.Promise.{stream};
+ghost use Rattle.tokens.specs.Promise.{stream};
 ghost use Rattle.parser.specs.Storing.{lent};
 ghost use Rattle.parser.specs.Steps.{Ready, betweenBy};
-ghost use Rattle.parser.specs.Declarations.{block as blockD};
+ghost use Rattle.notation.specs.Declarations.{block as blockD};
 ghost use Rattle.reader.specs.Groups.{allOf, groupsOf, GathersTo};
 ghost use Rattle.reader.specs.Blocks.{kindOf, branchesOf, kindsOf, commaOf, memberOf, membersOf, JoinsTo, Measured, Roomy, oneOf};
 ghost use Rattle.reader.specs.declared.blocks.Block.the-variants.{Tokens, LocalTokens, ExternalTokens, Skip};
@@ -59,19 +59,19 @@ fn token_member(
     ensures { λ r. ⌜ JoinsTo Tokens 0 free (now (source .entry)) token
         (lent n (now (records .entry)) x (now (texts .entry))) (now (records .exit)) (now (texts .exit)) r ⌝ }
 {
-    match parser::string(token) {
+    match tokens::string(token) {
         Part::From(a, e) => one(
             rules::parse_literal(source, token, a, e, records, n, texts, x),
             11,
         ),
         Part::Nothing => {
-            if parser::says(source, parser::at(token), b"precedence") {
+            if tokens::says(source, tokens::at(token), b"precedence") {
                 return one(
                     blocks::parse_token_precedence(source, token, records, n, texts, x),
                     9,
                 );
             }
-            if parser::says(source, parser::at(token), b"conflict") {
+            if tokens::says(source, tokens::at(token), b"conflict") {
                 return one(
                     blocks::parse_token_conflict(source, token, records, n, texts, x),
                     10,
@@ -96,13 +96,13 @@ fn local_member(
     ensures { λ r. ⌜ JoinsTo LocalTokens 0 free (now (source .entry)) token
         (lent n (now (records .entry)) x (now (texts .entry))) (now (records .exit)) (now (texts .exit)) r ⌝ }
 {
-    if parser::says(source, parser::at(token), b"precedence") {
+    if tokens::says(source, tokens::at(token), b"precedence") {
         return one(
             blocks::parse_token_precedence(source, token, records, n, texts, x),
             9,
         );
     }
-    match parser::eat_at(source, token, b"else") {
+    match tokens::eat_at(source, token, b"else") {
         Eaten::Refused(cause, at) => Joined::Refused(cause, at),
         Eaten::No => one(rules::parse_rule(source, token, 3, records, n, texts, x), 3),
         Eaten::Yes(u) => {
@@ -128,7 +128,7 @@ fn external_member(
     ensures { λ r. ⌜ JoinsTo ExternalTokens 0 free (now (source .entry)) token
         (lent n (now (records .entry)) x (now (texts .entry))) (now (records .exit)) (now (texts .exit)) r ⌝ }
 {
-    match parser::eat_at(source, token, b"conflict") {
+    match tokens::eat_at(source, token, b"conflict") {
         Eaten::Refused(cause, at) => Joined::Refused(cause, at),
         Eaten::No => one(
             rules::parse_named_node(source, token, records, n, texts, x),
@@ -154,7 +154,7 @@ fn skip_member(
     ensures { λ r. ⌜ JoinsTo Skip 0 free (now (source .entry)) token
         (lent n (now (records .entry)) x (now (texts .entry))) (now (records .exit)) (now (texts .exit)) r ⌝ }
 {
-    match parser::eat_at(source, token, b"top") {
+    match tokens::eat_at(source, token, b"top") {
         Eaten::Refused(cause, at) => Joined::Refused(cause, at),
         Eaten::No => one(rules::parse_rule(source, token, 3, records, n, texts, x), 3),
         Eaten::Yes(u) => one(rules::parse_rule(source, u, 2, records, n, texts, x), 2),
@@ -383,7 +383,7 @@ pub fn parse_block(
     ensures { λ r. ⌜ GathersTo (blockD (betweenBy (commaOf block)) (memberOf block) (stream (now (source .entry)) token)) (groupsOf (kindOf block) (branchesOf block) (kindsOf block)) (now (source .entry)) token 2
         (lent n (now (records .entry)) x (now (texts .entry))) (now (records .exit)) (now (texts .exit)) r ⌝ }
 {
-    match parser::expect_punctuation(source, token, 0x7B) {
+    match tokens::expect_punctuation(source, token, 0x7B) {
         Arrived::Refused(cause, at) => Listed::Refused(cause, at),
         Arrived::At(u) => {
             match members_list(

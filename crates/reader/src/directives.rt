@@ -3,21 +3,21 @@ use crate::blocks;
 use crate::blocks::Block;
 use declarations::externals;
 use error::Cause;
-use parser::Arrived;
-use parser::Current;
-use parser::Eaten;
-use parser::Taken;
 use parser::expressions;
 use parser::parts::Expressed;
 use parser::props::Listed;
 use parser::props::Parsed;
 use parser::store;
+use tokens::Arrived;
+use tokens::Current;
+use tokens::Eaten;
+use tokens::Taken;
 ghost use mathlib.Core.Path.{_≡_};
 ghost use Prim.Native.Nat.{_≤_};
 ghost use lib.ListN.{length};
 ghost use Rattle.tree.specs.Stored.{declarationBranch, specializeValue};
-ghost use Rattle.parser.specs.Declarations.{parseTokens, parseExternalTokens, parseExternalSpecializer, parseSkipDeclaration, declares};
-ghost use Rattle.parser.specs.Promise.{stream, startIn};
+ghost use Rattle.notation.specs.Declarations.{parseTokens, parseExternalTokens, parseExternalSpecializer, parseSkipDeclaration, declares};
+ghost use Rattle.tokens.specs.Promise.{stream, startIn};
 ghost use Rattle.parser.specs.Storing.{lent, nodesOf};
 ghost use Rattle.parser.specs.Steps.{Parses};
 ghost use Rattle.parser.specs.Shapes.{IsToken};
@@ -64,7 +64,7 @@ pub fn parse_tokens(
     ensures { λ r. ⌜ Parses (parseTokens (stream (now (source .entry)) token)) (nodesOf tokensBranch) (now (source .entry)) token
         (lent n (now (records .entry)) x (now (texts .entry))) (now (records .exit)) (now (texts .exit)) r ⌝ }
 {
-    match parser::next(source, token) {
+    match tokens::next(source, token) {
         Arrived::Refused(cause, at) => Parsed::Refused(cause, at),
         Arrived::At(u) => match blocks::parse_block(
             source,
@@ -77,7 +77,7 @@ pub fn parse_tokens(
         ) {
             Listed::Refused(cause, at) => Parsed::Refused(cause, at),
             Listed::Done(v, m, y, count) => {
-                let k = store::put_plain(records, m, 8, parser::start(token), 0, count);
+                let k = store::put_plain(records, m, 8, tokens::start(token), 0, count);
                 Parsed::Done(v, k, y)
             }
         },
@@ -98,9 +98,9 @@ fn parse_local_tokens(
     ensures { λ r. ⌜ Parses (localAt start (stream (now (source .entry)) token)) (nodesOf localBranch) (now (source .entry)) token
         (lent n (now (records .entry)) x (now (texts .entry))) (now (records .exit)) (now (texts .exit)) r ⌝ }
 {
-    match parser::eat_identifier_value(source, token, b"tokens") {
+    match tokens::eat_identifier_value(source, token, b"tokens") {
         Eaten::Refused(cause, at) => Parsed::Refused(cause, at),
-        Eaten::No => Parsed::Refused(Cause::UnexpectedToken, parser::start(token)),
+        Eaten::No => Parsed::Refused(Cause::UnexpectedToken, tokens::start(token)),
         Eaten::Yes(u) => match blocks::parse_block(
             source,
             Block::LocalTokens,
@@ -132,9 +132,9 @@ pub fn parse_local(
     ensures { λ r. ⌜ Parses (past (localAt (startIn token)) (stream (now (source .entry)) token)) (nodesOf localBranch) (now (source .entry)) token
         (lent n (now (records .entry)) x (now (texts .entry))) (now (records .exit)) (now (texts .exit)) r ⌝ }
 {
-    match parser::next(source, token) {
+    match tokens::next(source, token) {
         Arrived::Refused(cause, at) => Parsed::Refused(cause, at),
-        Arrived::At(u) => parse_local_tokens(source, u, parser::start(token), records, n, texts, x),
+        Arrived::At(u) => parse_local_tokens(source, u, tokens::start(token), records, n, texts, x),
     }
 }
 
@@ -157,7 +157,7 @@ fn parse_external_set(
     ensures { λ r. ⌜ Parses (externalSet block (stream (now (source .entry)) token)) (setNodes block kind start value before) (now (source .entry)) token
         (lent n (now (records .entry)) x (now (texts .entry))) (now (records .exit)) (now (texts .exit)) r ⌝ }
 {
-    match parser::parse_identifier(source, token) {
+    match tokens::parse_identifier(source, token) {
         Taken::Refused(cause, at) => Parsed::Refused(cause, at),
         Taken::Got(a, e, u) => match externals::parse_source(source, u) {
             Taken::Refused(cause, at) => Parsed::Refused(cause, at),
@@ -199,7 +199,7 @@ pub fn parse_external_tokens(
     ensures { λ r. ⌜ Parses (past (parseExternalTokens start) (stream (now (source .entry)) token)) (nodesOf declarationBranch) (now (source .entry)) token
         (lent n (now (records .entry)) x (now (texts .entry))) (now (records .exit)) (now (texts .exit)) r ⌝ }
 {
-    match parser::next(source, token) {
+    match tokens::next(source, token) {
         Arrived::Refused(cause, at) => Parsed::Refused(cause, at),
         Arrived::At(u) => parse_external_set(
             source,
@@ -242,7 +242,7 @@ pub fn parse_external_specializer(
     ensures { λ r. ⌜ Parses (past (parseExternalSpecializer start (specializeBy extend)) (stream (now (source .entry)) token)) (nodesOf declarationBranch) (now (source .entry)) token
         (lent n (now (records .entry)) x (now (texts .entry))) (now (records .exit)) (now (texts .exit)) r ⌝ }
 {
-    match parser::next(source, token) {
+    match tokens::next(source, token) {
         Arrived::Refused(cause, at) => Parsed::Refused(cause, at),
         Arrived::At(u) => match expressions::braced(source, LEVELS, u, records, n, texts, x) {
             Expressed::Refused(cause, at) => Parsed::Refused(cause, at),
@@ -275,7 +275,7 @@ fn holds_top(
     requires { ⌜ Roomy (now source) token n x ⌝ }
     ensures { λ r. ⌜ HoldsTop (now (source .entry)) token r × (now (records .exit) ≡ now (records .entry)) × (now (texts .exit) ≡ now (texts .entry)) ⌝ }
 {
-    let Arrived::At(u) = parser::expect_punctuation(source, token, 0x7B) else {
+    let Arrived::At(u) = tokens::expect_punctuation(source, token, 0x7B) else {
         return false;
     };
     let Listed::Done(_, _, _, count) = blocks::members_list(
@@ -331,16 +331,16 @@ pub fn parse_skip(
     ensures { λ r. ⌜ DeclaresTo (λ before. past (declares (parseSkipDeclaration (startIn token) before)) (stream (now (source .entry)) token)) seen (now (source .entry)) token
         (lent n (now (records .entry)) x (now (texts .entry))) (now (records .exit)) (now (texts .exit)) r ⌝ }
 {
-    match parser::next(source, token) {
+    match tokens::next(source, token) {
         Arrived::Refused(cause, at) => Declared::Refused(cause, at),
         Arrived::At(u) => match expressions::braced(source, LEVELS, u, records, n, texts, x) {
             Expressed::Refused(cause, at) => Declared::Refused(cause, at),
             Expressed::Done(v, m, y, p, _) => {
-                if parser::mark(v) == 0x7B {
+                if tokens::mark(v) == 0x7B {
                     return parse_scoped(source, v, p, records, m, texts, y);
                 }
                 if seen.skip {
-                    return Declared::Refused(Cause::SecondSkip, parser::start(token));
+                    return Declared::Refused(Cause::SecondSkip, tokens::start(token));
                 }
                 let k = store::put_plain(records, m, 22, p, 0, 1);
                 Declared::Done(v, k, y, 22, false)

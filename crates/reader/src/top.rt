@@ -6,21 +6,21 @@ use declarations::blocks;
 use declarations::externals;
 use declarations::rules;
 use error::Cause;
-use parser::Arrived;
-use parser::Current;
-use parser::Part;
 use parser::props::Listed;
 use parser::props::Parsed;
+use tokens::Arrived;
+use tokens::Current;
+use tokens::Part;
 ghost use mathlib.Core.Path.{_≡_};
 ghost use Prim.Native.Nat.{_≤_};
 ghost use lib.ListN.{length};
 ghost use Rattle.tree.specs.Stored.{declarationBranch};
 ghost use Rattle.lexer.specs.Promise.{partOf};
-ghost use Rattle.parser.specs.Parser.{pure};
-ghost use Rattle.parser.specs.Members.{detectDelim};
-ghost use Rattle.parser.specs.Declarations.{declares, parseContextDeclaration, parseExternalPropSource, parseExternalDeclaration, parseDirective, parseDeclaration};
-ghost use Rattle.parser.specs.Promise.{stream, startIn, atOf};
-ghost use Rattle.parser.specs.declared.Part.the-variants.{From};
+ghost use Rattle.notation.specs.Parser.{pure};
+ghost use Rattle.notation.specs.Members.{detectDelim};
+ghost use Rattle.notation.specs.Declarations.{declares, parseContextDeclaration, parseExternalPropSource, parseExternalDeclaration, parseDirective, parseDeclaration};
+ghost use Rattle.tokens.specs.Promise.{stream, startIn, atOf};
+ghost use Rattle.tokens.specs.declared.Part.the-variants.{From};
 ghost use Rattle.parser.specs.Storing.{lent, nodesOf};
 ghost use Rattle.parser.specs.Steps.{Ready, Parses};
 ghost use Rattle.parser.specs.Shapes.{IsToken};
@@ -40,10 +40,10 @@ fn parse_top(
     ensures { λ r. ⌜ Parses (past topAt (stream (now (source .entry)) token)) (nodesOf declarationBranch) (now (source .entry)) token
         (lent n (now (records .entry)) x (now (texts .entry))) (now (records .exit)) (now (texts .exit)) r ⌝ }
 {
-    match parser::next(source, token) {
+    match tokens::next(source, token) {
         Arrived::Refused(cause, at) => Parsed::Refused(cause, at),
-        Arrived::At(u) => match parser::name(u) {
-            Part::Nothing => Parsed::Refused(Cause::TopWithoutName, parser::start(u)),
+        Arrived::At(u) => match tokens::name(u) {
+            Part::Nothing => Parsed::Refused(Cause::TopWithoutName, tokens::start(u)),
             Part::From(_, _) => rules::parse_rule(source, u, 2, records, n, texts, x),
         },
     }
@@ -63,14 +63,14 @@ fn parse_context(
     ensures { λ r. ⌜ DeclaresTo (λ before. past (declares (parseContextDeclaration (startIn token) before)) (stream (now (source .entry)) token)) seen (now (source .entry)) token
         (lent n (now (records .entry)) x (now (texts .entry))) (now (records .exit)) (now (texts .exit)) r ⌝ }
 {
-    match parser::next(source, token) {
+    match tokens::next(source, token) {
         Arrived::Refused(cause, at) => Declared::Refused(cause, at),
         Arrived::At(u) => {
             if seen.context {
-                return Declared::Refused(Cause::SecondContext, parser::start(token));
+                return Declared::Refused(Cause::SecondContext, tokens::start(token));
             }
             directives::of_kind(
-                externals::parse_from(source, u, 14, parser::start(token), records, n, texts, x),
+                externals::parse_from(source, u, 14, tokens::start(token), records, n, texts, x),
                 14,
                 false,
             )
@@ -93,7 +93,7 @@ fn parse_prop(
     ensures { λ r. ⌜ DeclaresTo (λ _. past (propAt start) (stream (now (source .entry)) token)) seen (now (source .entry)) token
         (lent n (now (records .entry)) x (now (texts .entry))) (now (records .exit)) (now (texts .exit)) r ⌝ }
 {
-    match parser::next(source, token) {
+    match tokens::next(source, token) {
         Arrived::Refused(cause, at) => Declared::Refused(cause, at),
         Arrived::At(u) => directives::of_kind(
             externals::parse_external_prop(source, u, start, records, n, texts, x),
@@ -117,7 +117,7 @@ fn parse_prop_source(
     ensures { λ r. ⌜ Parses (past (parseExternalPropSource start) (stream (now (source .entry)) token)) (nodesOf declarationBranch) (now (source .entry)) token
         (lent n (now (records .entry)) x (now (texts .entry))) (now (records .exit)) (now (texts .exit)) r ⌝ }
 {
-    match parser::next(source, token) {
+    match tokens::next(source, token) {
         Arrived::Refused(cause, at) => Parsed::Refused(cause, at),
         Arrived::At(u) => externals::parse_from(source, u, 19, start, records, n, texts, x),
     }
@@ -138,18 +138,18 @@ fn parse_external_declaration(
     ensures { λ r. ⌜ DeclaresTo (λ _. parseExternalDeclaration start (stream (now (source .entry)) token)) seen (now (source .entry)) token
         (lent n (now (records .entry)) x (now (texts .entry))) (now (records .exit)) (now (texts .exit)) r ⌝ }
 {
-    let name = parser::name(token);
-    if parser::says(source, name, b"tokens") {
+    let name = tokens::name(token);
+    if tokens::says(source, name, b"tokens") {
         return directives::of_kind(
             directives::parse_external_tokens(source, token, start, records, n, texts, x),
             16,
             false,
         );
     }
-    if parser::says(source, name, b"prop") {
+    if tokens::says(source, name, b"prop") {
         return parse_prop(source, token, seen, start, records, n, texts, x);
     }
-    if parser::says(source, name, b"extend") {
+    if tokens::says(source, name, b"extend") {
         return directives::of_kind(
             directives::parse_external_specializer(
                 source,
@@ -165,7 +165,7 @@ fn parse_external_declaration(
             false,
         );
     }
-    if parser::says(source, name, b"specialize") {
+    if tokens::says(source, name, b"specialize") {
         return directives::of_kind(
             directives::parse_external_specializer(
                 source,
@@ -181,14 +181,14 @@ fn parse_external_declaration(
             false,
         );
     }
-    if parser::says(source, name, b"propSource") {
+    if tokens::says(source, name, b"propSource") {
         return directives::of_kind(
             parse_prop_source(source, token, start, records, n, texts, x),
             19,
             false,
         );
     }
-    Declared::Refused(Cause::UnexpectedToken, parser::start(token))
+    Declared::Refused(Cause::UnexpectedToken, tokens::start(token))
 }
 
 // `@external`, at its keyword.
@@ -205,13 +205,13 @@ fn parse_external(
     ensures { λ r. ⌜ DeclaresTo (λ _. past (parseExternalDeclaration (startIn token)) (stream (now (source .entry)) token)) seen (now (source .entry)) token
         (lent n (now (records .entry)) x (now (texts .entry))) (now (records .exit)) (now (texts .exit)) r ⌝ }
 {
-    match parser::next(source, token) {
+    match tokens::next(source, token) {
         Arrived::Refused(cause, at) => Declared::Refused(cause, at),
         Arrived::At(u) => parse_external_declaration(
             source,
             u,
             seen,
-            parser::start(token),
+            tokens::start(token),
             records,
             n,
             texts,
@@ -234,7 +234,7 @@ fn parse_dialects(
     ensures { λ r. ⌜ DeclaresTo (λ _. past dialectsAt (stream (now (source .entry)) token)) seen (now (source .entry)) token
         (lent n (now (records .entry)) x (now (texts .entry))) (now (records .exit)) (now (texts .exit)) r ⌝ }
 {
-    match parser::next(source, token) {
+    match tokens::next(source, token) {
         Arrived::Refused(cause, at) => Declared::Refused(cause, at),
         Arrived::At(u) => {
             match rules::parse_names(source, u, 24, &mut records[..0], n, &mut texts[..0], x) {
@@ -250,7 +250,7 @@ fn parse_detect_delim(source: &[u8], token: Current, seen: Seen, n: usize, x: us
     requires { ⌜ Ready (now source) token n x × IsToken token ⌝ }
     ensures { λ r. ⌜ DeclaresAlone (λ _. past (pure detectDelim) (stream (now (source .entry)) token)) seen (now (source .entry)) token n x r ⌝ }
 {
-    match parser::next(source, token) {
+    match tokens::next(source, token) {
         Arrived::Refused(cause, at) => Declared::Refused(cause, at),
         Arrived::At(u) => Declared::Done(u, n, x, 1, false),
     }
@@ -272,13 +272,13 @@ fn parse_directive(
     ensures { λ r. ⌜ DeclaresTo (λ before. parseDirective (startIn token) before (partOf (now (source .entry)) a e) (stream (now (source .entry)) token)) seen (now (source .entry)) token
         (lent n (now (records .entry)) x (now (texts .entry))) (now (records .exit)) (now (texts .exit)) r ⌝ }
 {
-    let at = parser::at(token);
-    if parser::says(source, at, b"top") {
+    let at = tokens::at(token);
+    if tokens::says(source, at, b"top") {
         return directives::of_kind(parse_top(source, token, records, n, texts, x), 2, true);
     }
-    if parser::says(source, at, b"tokens") {
+    if tokens::says(source, at, b"tokens") {
         if seen.tokens {
-            return Declared::Refused(Cause::SecondTokens, parser::start(token));
+            return Declared::Refused(Cause::SecondTokens, tokens::start(token));
         }
         return directives::of_kind(
             directives::parse_tokens(source, token, records, n, texts, x),
@@ -286,25 +286,25 @@ fn parse_directive(
             false,
         );
     }
-    if parser::says(source, at, b"local") {
+    if tokens::says(source, at, b"local") {
         return directives::of_kind(
             directives::parse_local(source, token, records, n, texts, x),
             12,
             false,
         );
     }
-    if parser::says(source, at, b"context") {
+    if tokens::says(source, at, b"context") {
         return parse_context(source, token, seen, records, n, texts, x);
     }
-    if parser::says(source, at, b"external") {
+    if tokens::says(source, at, b"external") {
         return parse_external(source, token, seen, records, n, texts, x);
     }
-    if parser::says(source, at, b"dialects") {
+    if tokens::says(source, at, b"dialects") {
         return parse_dialects(source, token, seen, records, n, texts, x);
     }
-    if parser::says(source, at, b"precedence") {
+    if tokens::says(source, at, b"precedence") {
         if seen.precedence {
-            return Declared::Refused(Cause::SecondPrecedence, parser::start(token));
+            return Declared::Refused(Cause::SecondPrecedence, tokens::start(token));
         }
         return directives::of_kind(
             blocks::parse_precedence(source, token, records, n, texts, x),
@@ -312,13 +312,13 @@ fn parse_directive(
             false,
         );
     }
-    if parser::says(source, at, b"detectDelim") {
+    if tokens::says(source, at, b"detectDelim") {
         return parse_detect_delim(source, token, seen, n, x);
     }
-    if parser::says(source, at, b"skip") {
+    if tokens::says(source, at, b"skip") {
         return directives::parse_skip(source, token, seen, records, n, texts, x);
     }
-    Declared::Refused(Cause::UnexpectedToken, parser::start(token))
+    Declared::Refused(Cause::UnexpectedToken, tokens::start(token))
 }
 
 // A declaration, stored; `seen` says which kinds stand before it.
@@ -335,7 +335,7 @@ pub fn parse_declaration(
     ensures { λ r. ⌜ DeclaresTo (λ before. parseDeclaration before (stream (now (source .entry)) token)) seen (now (source .entry)) token
         (lent n (now (records .entry)) x (now (texts .entry))) (now (records .exit)) (now (texts .exit)) r ⌝ }
 {
-    match parser::at(token) {
+    match tokens::at(token) {
         Part::Nothing => directives::of_kind(
             rules::parse_rule(source, token, 3, records, n, texts, x),
             3,

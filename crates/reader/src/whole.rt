@@ -4,10 +4,10 @@ use crate::directives::Seen;
 use crate::top;
 use declarations::rules;
 use error::Cause;
-use parser::Arrived;
-use parser::Current;
 use parser::props::Listed;
 use parser::store;
+use tokens::Arrived;
+use tokens::Current;
 ghost use Prim.Native.Nat.{_≤_};
 ghost use mathlib.Core.Path.{_≡_};
 ghost use mathlib.Core.Bool.{_||_};
@@ -15,7 +15,7 @@ ghost use lib.Dec.{eqb};
 ghost use Rattle.basics.specs.Basics.{if_then_else_};
 ghost use lib.ListN.{length, getD};
 ghost use Rattle.tree.specs.Stored.{flag as flagD};
-ghost use Rattle.parser.specs.Promise.{LiesIn};
+ghost use Rattle.tokens.specs.Promise.{LiesIn};
 ghost use Rattle.parser.specs.Storing.{lent};
 ghost use Rattle.reader.specs.Blocks.{Roomy};
 ghost use Rattle.reader.specs.Whole.{PicksTo, recordsOf, noteOf, PassesTo, HasNames, NamesTo, storedKinds, Surveyed, GroupsTo, Known, Reads};
@@ -199,7 +199,7 @@ fn dialects(
     if !noted.listed {
         return Listed::Done(last, n, x, 0);
     }
-    match parser::next(source, last) {
+    match tokens::next(source, last) {
         Arrived::Refused(cause, at) => Listed::Refused(cause, at),
         Arrived::At(u) => rules::parse_names(source, u, 24, records, n, texts, x),
     }
@@ -289,7 +289,7 @@ fn store(
                         records,
                         i,
                         1,
-                        parser::start(token),
+                        tokens::start(token),
                         flag(noted.delim),
                         count,
                     );
@@ -305,13 +305,13 @@ pub fn parse(source: &[u8], records: &mut [u32], texts: &mut [u8]) -> Whole
     requires { ⌜ length (now source) ≤ 0x10000 ⌝ }
     ensures { λ r. ⌜ Reads (now (source .entry)) (now (records .entry)) (now (texts .entry)) (now (records .exit)) (now (texts .exit)) r ⌝ }
 {
-    match parser::arrive(source, 0) {
+    match tokens::arrive(source, 0) {
         Arrived::Refused(cause, at) => Whole::Refused(cause, at),
         Arrived::At(t) => match pass(source, t, 0, &mut records[..0], 0, &mut texts[..0], 0) {
             Passed::Refused(cause, at) => Whole::Refused(cause, at),
             Passed::Done(last, n, x, count, noted) => {
                 if !noted.top {
-                    return Whole::Refused(Cause::NoTop, parser::start(last));
+                    return Whole::Refused(Cause::NoTop, tokens::start(last));
                 }
                 match dialects(source, noted, &mut records[..0], n, &mut texts[..0], x) {
                     Listed::Refused(cause, at) => Whole::Refused(cause, at),

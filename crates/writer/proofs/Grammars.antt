@@ -11,7 +11,7 @@ use Rattle.tree.specs.Stored.{grammarBranch, grammarRecords, grammarTexts, gram
 use Rattle.tree.specs.Promise.{countOf, wordAt, All}
 use Rattle.tree.proofs.Back.{all-left, root-at, past-root, nodes-some}
 use Rattle.tree.proofs.Standing.{stands, stand-all, all-inside}
-use Rattle.writer.specs.NormalText.{normalText}
+use Rattle.spelling.specs.NormalText.{normalText}
 use Rattle.writer.specs.Promise.{Lent, rowAt, Run, Stored}
 use Rattle.writer.specs.Walk.{lastAt, lastClass, branchesText, closing, treeText}
 use Rattle.writer.proofs.Runs.{last-of, recount}

@@ -1,7 +1,4 @@
-pub mod Back
-pub mod Writes
-pub mod Digits
-pub mod Bytes
+pub mod Measured
 pub mod Small
 pub mod Walked
 pub mod WalkedExpressions

@@ -10,7 +10,8 @@ use Rattle.tree.specs.Records.{Row, Branch, branch, Branches, []ᴮ, _∷ᴮ_, 
 use Rattle.tree.specs.OneTree.{kindOf}
 use Rattle.tree.specs.Promise.{wordAt, firstOf, kindBefore, All}
 use Rattle.tree.proofs.Back.{all-left, all-right, root-at, past-root, kind-last, before, nodes-before, nodes-some, first-last}
-use Rattle.writer.specs.Promise.{Wrote, Lent, rowAt, Run}
+use Rattle.writer.specs.Promise.{Lent, rowAt, Run}
+use Rattle.output.specs.Promise.{Wrote}
 use Rattle.writer.specs.Walk.{class, front, back, lastAt, lastClass, branchText, branchesText}
 use Rattle.writer.proofs.Small.{row-small, front-small, back-small}
 

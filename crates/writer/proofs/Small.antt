@@ -11,14 +11,15 @@ use borrow.Author.Tests.{leb-true}
 use Rattle.basics.specs.Basics.{if_then_else_, letters, among}
 use Rattle.basics.proofs.Tests.{cases, both-true}
 use Rattle.writer.specs.Walk.{Entry, textFor, expressionCommas, listCommas, expressionOpens, nodeOpens, listOpens, listShuts, expressionTails, sourceTails, nameTails, propWords, externalWords, specializeWords, sequenceWords, setWords, classWords, kindWords, precWords, partEnds, repeatWords, listEnds, kindEnds, dialectEnds, detectWords, comma, opens, shuts, newLine, separator, between, source, tail, inBrackets, isLine, tokenless, lead, ends, before, spelled, after, own, blockEnd, close, class, setting, link, front, back, closing}
-use Rattle.writer.specs.Spelling.{quoted, spanText, spell}
-use Rattle.writer.specs.Promise.{Wrote, Lent, rowAt}
+use Rattle.spelling.specs.Spelling.{quoted, spanText, spell}
+use Rattle.writer.specs.Promise.{Lent, rowAt}
+use Rattle.output.specs.Promise.{Wrote}
 use Rattle.characters.specs.Spans.{_upto_}
 use Rattle.lexer.specs.Tokens.{Kind}
 use Rattle.tree.specs.Records.{Row}
 use Rattle.tree.specs.Promise.{wordAt}
-use Rattle.writer.proofs.Bytes.{quoted-small}
-use Rattle.writer.proofs.Digits.{span-small}
+use Rattle.spelling.proofs.Bytes.{quoted-small}
+use Rattle.output.proofs.Digits.{span-small}
 
 -- all texts of a table are at most so long
 unfoldable short : ℕ → List Entry → Bool

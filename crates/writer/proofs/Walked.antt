@@ -12,11 +12,11 @@ use Rattle.lexer.specs.Tokens.{Kind}
 use Rattle.characters.specs.Utf8.{encode, encodeAll}
 use Rattle.tree.specs.Records.{Row, Branch, branch, Branches, []ᴮ, _∷ᴮ_}
 use Rattle.tree.specs.OneTree.{kindOf}
-use Rattle.writer.specs.Spelling.{quoted, spell, spaced}
+use Rattle.spelling.specs.Spelling.{quoted, spell, spaced}
 use Rattle.tree.specs.Stored as Stored
-use Rattle.writer.specs.NormalText.{each, eachAfter, commas, bracketed, mark}
+use Rattle.spelling.specs.NormalText.{each, eachAfter, commas, bracketed, mark}
 use Rattle.writer.specs.Walk.{class, between, source, link, tail, setting, lead, ends, before, spelled, after, own, close, front, back, lastClass, branchText, branchesText}
-use Rattle.writer.proofs.Bytes.{string-bytes, encode-append}
+use Rattle.spelling.proofs.Bytes.{string-bytes, encode-append}
 
 abbrev pub classOf : Branch → ℕ
 classOf b = class (kindOf b)

@@ -12,8 +12,8 @@ use Rattle.tree.specs.Syntax as Syntax
 use Rattle.tree.specs.Records.{Row, branch, Branches, []ᴮ, _∷ᴮ_}
 use Rattle.tree.specs.Stored.{full, named, plain, leaf, propBranch, specializeValue, expressionBranch, nameBranch, sourceBranch, ruleBranch, referenceBranch, tokenPrecBranch, tokenConflictBranch, literalBranch, namedNodeBranch, fallbackBranches, precValue, precItemBranch, declarationBranch, externalPropBranch}
 use Rattle.tree.specs.Stored as Stored
-use Rattle.writer.specs.Spelling.{quoted, spell}
-use Rattle.writer.specs.NormalText.{propTokens, each, eachAfter, commas, bracketed, mark, word, at, string, identifier, fromTokens, specializeWord, propsTokens, expressionTokens, bodyTokens, ruleTokens, topRuleTokens, referenceTokens, tokenPrecTokens, tokenConflictTokens, literalTokens, namedNodeTokens, fallbackTokens, precTokens, precItemTokens, conflictsTokens, externalSetTokens, declarationTokens, externalPropTokens}
+use Rattle.spelling.specs.Spelling.{quoted, spell}
+use Rattle.spelling.specs.NormalText.{propTokens, each, eachAfter, commas, bracketed, mark, word, at, string, identifier, fromTokens, specializeWord, propsTokens, expressionTokens, bodyTokens, ruleTokens, topRuleTokens, referenceTokens, tokenPrecTokens, tokenConflictTokens, literalTokens, namedNodeTokens, fallbackTokens, precTokens, precItemTokens, conflictsTokens, externalSetTokens, declarationTokens, externalPropTokens}
 use Rattle.writer.specs.Walk.{textFor, comma, opens, shuts, between, separator, tail, setting, inBrackets, isLine, tokenless, lead, ends, before, spelled, after, close, blockEnd, lastClass}
 use Rattle.writer.specs.Walk as Walk
 use Rattle.writer.proofs.Walked.{sourceOn, body, walks, led, led-string, Child, child, children-after, children, children-commas, children-bracketed, last-each}

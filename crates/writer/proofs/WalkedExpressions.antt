@@ -12,11 +12,11 @@ use Rattle.tree.specs.Syntax.{PropPart, value, name, Prop, ConflictMarkerKind, 
 use Rattle.tree.specs.Records.{Row, branch, Branches, []ᴮ, _∷ᴮ_}
 use Rattle.tree.specs.Stored.{full, named, valued, plain, leaf, flag, partBranch, propBranch, markerNumber, markerBranch, spanBranch, expressionBranch, expressionBranches, slotBranches}
 use Rattle.tree.specs.Stored as Stored
-use Rattle.writer.specs.Spelling.{spanText, spansText, spell}
-use Rattle.writer.specs.NormalText.{each, mark, propTokens, propsTokens, partTokens, valueTokens, propName, markerTokens, isChoice, isSequence, bracketIf, expressionTokens, argumentsTokens, moreArguments, armsTokens, moreArms, slotsTokens}
+use Rattle.spelling.specs.Spelling.{spanText, spansText, spell}
+use Rattle.spelling.specs.NormalText.{each, mark, propTokens, propsTokens, partTokens, valueTokens, propName, markerTokens, isChoice, isSequence, bracketIf, expressionTokens, argumentsTokens, moreArguments, armsTokens, moreArms, slotsTokens}
 use Rattle.writer.specs.Walk.{textFor, comma, opens, shuts, between, separator, tail, setting, inBrackets, isLine, tokenless, lead, ends, before, spelled, after, close, blockEnd, lastClass}
 use Rattle.writer.specs.Walk as Walk
-use Rattle.writer.proofs.Bytes.{set-bytes}
+use Rattle.spelling.proofs.Bytes.{set-bytes}
 use Rattle.writer.proofs.Walked.{classOf, sourceOn, body, walks, led, led-string, Child, children-bracketed}
 
 -- ------------------------------------------------------------------ props

@@ -12,11 +12,11 @@ use Rattle.tree.specs.Syntax.{Identifier, ExternalPropDeclaration, Declaration,
 use Rattle.tree.specs.Records.{Branch, Branches, []ᴮ, _∷ᴮ_}
 use Rattle.tree.specs.Stored.{valued, flag, nameBranch, declarationBranch, externalPropBranch, grammarBranch}
 use Rattle.tree.specs.Stored as Stored
-use Rattle.writer.specs.Spelling.{spell, spaced}
-use Rattle.writer.specs.NormalText.{eachAfter, mark, at, identifier, declarationTokens, externalPropTokens, dialectsLines, detectLines, lines, linesText, normalText}
+use Rattle.spelling.specs.Spelling.{spell, spaced}
+use Rattle.spelling.specs.NormalText.{eachAfter, mark, at, identifier, declarationTokens, externalPropTokens, dialectsLines, detectLines, lines, linesText, normalText}
 use Rattle.writer.specs.Walk.{textFor, newLine, between, separator, tail, setting, inBrackets, isLine, tokenless, lead, ends, before, spelled, after, close, blockEnd, lastClass, closing, treeText}
 use Rattle.writer.specs.Walk as Walk
-use Rattle.writer.proofs.Bytes.{encode-append}
+use Rattle.spelling.proofs.Bytes.{encode-append}
 use Rattle.writer.proofs.Walked.{classOf, sourceOn, body, walks, walks-on, led, led-spaced}
 use Rattle.writer.proofs.WalkedDeclarations.{declaration, external-prop-says}
 

@@ -1,5 +1,2 @@
-pub mod Spelling
-pub mod NormalText
 pub mod Promise
 pub mod Walk
-pub mod Examples

@@ -13,8 +13,9 @@ use Rattle.lexer.specs.Tokens.{Kind}
 use Rattle.tree.specs.Records.{Row, Branch, branch, Branches, []ᴮ, _∷ᴮ_}
 use Rattle.tree.specs.OneTree.{isExpression, kindOf}
 use Rattle.tree.specs.Promise.{wordAt, kindBefore}
-use Rattle.writer.specs.Spelling.{quoted, spanText, spell}
-use Rattle.writer.specs.Promise.{Wrote, rowAt, Run}
+use Rattle.spelling.specs.Spelling.{quoted, spanText, spell}
+use Rattle.writer.specs.Promise.{rowAt, Run}
+use Rattle.output.specs.Promise.{Wrote}
 
 infix 70 _says_
 -- a text for a number

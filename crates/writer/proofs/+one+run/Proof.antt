@@ -5,7 +5,7 @@ use native.Mathlib.Omega.{arith}
 use borrow.Author.Needs.{needs}
 use borrow.Fn.Kinds.{In}
 use borrow.Fn.PlainCycle.{Measures, is, falls, and}
-use Rattle.writer.proofs.Writes.{wrote-none, then}
+use Rattle.output.proofs.Writes.{wrote-none, then}
 use Rattle.writer.proofs.Small.{bounded, row-small, front-small, back-small}
 use Rattle.writer.proofs.Runs.{text-none, only, branch-says, right, mid-first, left, mid-low, halves, run-small, run-few, recount}
 use Rattle.writer.proofs.one.Reads as one
@@ -20,7 +20,7 @@ use Rattle.writer.proofs.children.Reads as children-reads
 use Rattle.writer.proofs.class.Reads as class-reads
 use Rattle.writer.proofs.put_back.Reads as put-back-reads
 use Rattle.writer.proofs.put_front.Reads as put-front-reads
-use Rattle.writer.proofs.upto.Reads as upto-reads
+use Rattle.output.proofs.upto.Reads as upto-reads
 use Rattle.writer.proofs.+one+run.{statement}
 use Rattle.writer.proofs.+one+run.Tie.{close}
 

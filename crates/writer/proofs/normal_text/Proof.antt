@@ -1,7 +1,7 @@
 -- `writer::normal_text` meets its contract. Assumes nothing.
 use native.Mathlib.Omega.{arith}
 use Prim.Native.Nat.{_+_, _*_}
-use Rattle.writer.proofs.Writes.{then}
+use Rattle.output.proofs.Writes.{then}
 use Rattle.writer.proofs.Small.{bounded, closing-small}
 use Rattle.writer.proofs.Runs.{run-small}
 use Rattle.writer.proofs.Grammars.{some-records, lent, root-run, root-says}

@@ -1,7 +1,7 @@
 -- `writer::put_back` meets its contract. Assumes nothing.
 use native.Mathlib.Omega.{arith}
 use Rattle.writer.specs.Walk.{back}
-use Rattle.writer.proofs.Writes.{then}
+use Rattle.output.proofs.Writes.{then}
 use Rattle.writer.proofs.Small.{bounded, close-small, ends-small, tail-small}
 use borrow.Author.Needs.{needs}
 use Rattle.writer.proofs.put_back.Statement.{statement}

@@ -1,7 +1,7 @@
 -- `writer::put_closing` meets its contract. Assumes nothing.
 use native.Mathlib.Omega.{arith}
 use Rattle.writer.specs.Walk.{closing}
-use Rattle.writer.proofs.Writes.{then}
+use Rattle.output.proofs.Writes.{then}
 use Rattle.writer.proofs.Small.{bounded, dialect-small, detect-small}
 use borrow.Author.Needs.{needs}
 use Rattle.writer.proofs.put_closing.Statement.{statement}

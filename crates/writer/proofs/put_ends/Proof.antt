@@ -1,7 +1,7 @@
 -- `writer::put_ends` meets its contract. Assumes nothing.
 use mathlib.Core.Path.{sym, _∙_}
 use Rattle.writer.specs.Walk.{ends}
-use Rattle.writer.proofs.Writes.{wrote-none}
+use Rattle.output.proofs.Writes.{wrote-none}
 use borrow.Author.Needs.{needs}
 use Rattle.writer.proofs.put_ends.Statement.{statement}
 use Rattle.writer.proofs.put_ends.Tie as tie

@@ -1,7 +1,7 @@
 -- `writer::put_front` meets its contract. Assumes nothing.
 use native.Mathlib.Omega.{arith}
 use Rattle.writer.specs.Walk.{front}
-use Rattle.writer.proofs.Writes.{then}
+use Rattle.output.proofs.Writes.{then}
 use Rattle.writer.proofs.Small.{bounded, row-small, link-small, lead-small, own-small}
 use borrow.Author.Needs.{needs}
 use Rattle.writer.proofs.put_front.Statement.{statement}

@@ -1,7 +1,7 @@
 -- `writer::put_lead` meets its contract. Assumes nothing.
 use mathlib.Core.Path.{sym, _∙_}
 use Rattle.writer.specs.Walk.{lead}
-use Rattle.writer.proofs.Writes.{wrote-none}
+use Rattle.output.proofs.Writes.{wrote-none}
 use borrow.Author.Needs.{needs}
 use Rattle.writer.proofs.put_lead.Statement.{statement}
 use Rattle.writer.proofs.put_lead.Tie as tie

@@ -1,7 +1,7 @@
 -- `writer::put_link` meets its contract. Assumes nothing.
 use native.Mathlib.Omega.{arith}
 use Rattle.writer.specs.Walk.{link}
-use Rattle.writer.proofs.Writes.{then}
+use Rattle.output.proofs.Writes.{then}
 use Rattle.writer.proofs.Small.{bounded, row-small, between-small, source-small}
 use borrow.Author.Needs.{needs}
 use Rattle.writer.proofs.put_link.Statement.{statement}

@@ -1,7 +1,7 @@
 -- `writer::put_new_line` meets its contract. Assumes nothing.
 use borrow.Author.Tests.{ne-eqb}
 use Rattle.writer.specs.Walk.{newLine}
-use Rattle.writer.proofs.Writes.{wrote-none}
+use Rattle.output.proofs.Writes.{wrote-none}
 use borrow.Author.Needs.{needs}
 use Rattle.writer.proofs.put_new_line.Statement.{statement}
 use Rattle.writer.proofs.put_new_line.Tie as tie

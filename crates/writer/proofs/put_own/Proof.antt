@@ -1,7 +1,7 @@
 -- `writer::put_own` meets its contract. Assumes nothing.
 use native.Mathlib.Omega.{arith}
 use Rattle.writer.specs.Walk.{own}
-use Rattle.writer.proofs.Writes.{then}
+use Rattle.output.proofs.Writes.{then}
 use Rattle.writer.proofs.Small.{bounded, row-small, before-small, spelled-small, after-small}
 use borrow.Author.Needs.{needs}
 use Rattle.writer.proofs.put_own.Statement.{statement}

@@ -2,7 +2,7 @@
 use borrow.Author.Tests.{eq-eqb, ne-eqb}
 use native.Mathlib.Omega.{arith}
 use Rattle.writer.specs.Walk.{shuts, separator}
-use Rattle.writer.proofs.Writes.{then}
+use Rattle.output.proofs.Writes.{then}
 use Rattle.writer.proofs.Small.{shuts-small, opens-small}
 use borrow.Author.Needs.{needs}
 use Rattle.writer.proofs.put_separator.Statement.{statement}

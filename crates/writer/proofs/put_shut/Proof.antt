@@ -2,7 +2,7 @@
 use borrow.Author.Tests.{ne-eqb}
 use borrow.Author.Needs.{needs}
 use Rattle.writer.specs.Walk.{textFor}
-use Rattle.writer.proofs.Writes.{wrote-none}
+use Rattle.output.proofs.Writes.{wrote-none}
 use Rattle.writer.proofs.put_shut.Statement.{statement}
 use Rattle.writer.proofs.put_shut.Tie as tie
 

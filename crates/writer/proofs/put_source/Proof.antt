@@ -2,7 +2,7 @@
 use borrow.Author.Tests.{ne-eqb}
 use native.Mathlib.Omega.{arith}
 use Rattle.writer.specs.Walk.{source}
-use Rattle.writer.proofs.Writes.{wrote-none, then}
+use Rattle.output.proofs.Writes.{wrote-none, then}
 use Rattle.writer.proofs.Small.{row-small}
 use borrow.Author.Needs.{needs}
 use Rattle.writer.proofs.put_source.Statement.{statement}

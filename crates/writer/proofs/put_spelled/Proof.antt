@@ -1,7 +1,7 @@
 -- `writer::put_spelled` meets its contract. Assumes nothing.
 use borrow.Author.Tests.{ne-eqb}
 use Rattle.writer.specs.Walk.{spelled}
-use Rattle.writer.proofs.Writes.{wrote-none}
+use Rattle.output.proofs.Writes.{wrote-none}
 use borrow.Author.Needs.{needs}
 use Rattle.writer.proofs.put_spelled.Statement.{statement}
 use Rattle.writer.proofs.put_spelled.Tie as tie

@@ -1,5 +1,5 @@
 -- `writer::write_normal_text` meets its contract. Assumes nothing.
-use Rattle.writer.proofs.Writes.{over-limit, over-output, within-both}
+use Rattle.writer.proofs.Measured.{over-limit, over-output, within-both}
 use borrow.Author.Needs.{needs}
 use Rattle.writer.proofs.write_normal_text.Statement.{statement}
 use Rattle.writer.proofs.write_normal_text.Tie as tie

@@ -2,7 +2,7 @@
 -- Assumes nothing.
 use mathlib.Core.Path.{refl}
 use Rattle.basics.specs.Basics.{every}
-use Rattle.parser.proofs.Stream.{at-whole}
+use Rattle.tokens.proofs.Stream.{at-whole}
 use Rattle.parser.proofs.Onward.{onward-here}
 use Rattle.declarations.proofs.BlocksLaws.{word-yes, word-no, word-not, left-not, left-yes, right-not, right-yes, cut-not, cut-yes, kind-none, prec-got}
 use borrow.Author.Needs.{needs}

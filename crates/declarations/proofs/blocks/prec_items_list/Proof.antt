@@ -2,10 +2,10 @@
 -- Assumes nothing.
 use native.Mathlib.Omega.{arith}
 use mathlib.Core.Path.{refl}
-use Rattle.parser.specs.Declarations.{parsePrecItem}
+use Rattle.notation.specs.Declarations.{parsePrecItem}
 use Rattle.tree.specs.Stored.{precItemBranch}
-use Rattle.parser.specs.Parser.{size, untilStep, eat, commaOrNot}
-use Rattle.parser.specs.Promise.{stream}
+use Rattle.notation.specs.Parser.{size, untilStep, eat, commaOrNot}
+use Rattle.tokens.specs.Promise.{stream}
 use Rattle.parser.specs.Storing.{lent, nodesOf}
 use Rattle.parser.specs.declared.props.Comma.the-variants.{May}
 use Rattle.parser.proofs.Ready.{ready-step, ready-on, listing-small}

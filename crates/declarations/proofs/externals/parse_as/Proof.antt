@@ -1,7 +1,7 @@
 -- `externals::parse_as` meets its contract.
 -- Assumes nothing.
 use borrow.Author.Needs.{needs}
-use Rattle.parser.proofs.Stream.{name-whole}
+use Rattle.tokens.proofs.Stream.{name-whole}
 use Rattle.declarations.proofs.SourceLaws.{word-yes, word-no, word-not, word-onward}
 use Rattle.declarations.proofs.PropLaws.{as-plain, as-refused, as-same, as-taken}
 use Rattle.declarations.proofs.externals.parse_as.Statement.{statement}

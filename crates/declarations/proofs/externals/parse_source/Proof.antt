@@ -1,7 +1,7 @@
 -- `externals::parse_source` meets its contract.
 -- Assumes nothing.
 use borrow.Author.Needs.{needs}
-use Rattle.parser.proofs.Stream.{name-whole}
+use Rattle.tokens.proofs.Stream.{name-whole}
 use Rattle.declarations.proofs.SourceLaws.{word-yes, word-no, word-not, word-onward, source-refused, source-no, source-taken, from-plain}
 use Rattle.declarations.proofs.externals.parse_source.Statement.{statement}
 use Rattle.declarations.proofs.externals.parse_source.Tie as tie

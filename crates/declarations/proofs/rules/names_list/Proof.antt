@@ -5,8 +5,8 @@ use mathlib.Core.Path.{refl}
 use Rattle.parser.proofs.Ready.{ready-step, ready-on, listing-small}
 use Rattle.parser.proofs.Lists.{Listing, listing-start}
 use Rattle.parser.proofs.Openings.{item-onward, list-closed, list-refused, item-refused, item-more}
-use Rattle.parser.specs.Parser.{size, untilStep, eat, commaOrNot, parseIdentifier}
-use Rattle.parser.specs.Promise.{stream}
+use Rattle.notation.specs.Parser.{size, untilStep, eat, commaOrNot, parseIdentifier}
+use Rattle.tokens.specs.Promise.{stream}
 use Rattle.parser.specs.Storing.{lent, nodesOf}
 use Rattle.parser.specs.declared.props.Comma.the-variants.{May}
 use Rattle.tree.specs.Stored.{nameBranch}

@@ -2,7 +2,7 @@
 -- Assumes nothing.
 use native.Mathlib.Omega.{arith}
 use Rattle.tree.specs.Stored.{nameBranch}
-use Rattle.parser.specs.Parser.{commaOrNot, parseIdentifier}
+use Rattle.notation.specs.Parser.{commaOrNot, parseIdentifier}
 use Rattle.parser.specs.Storing.{nodesOf}
 use Rattle.parser.proofs.Onward.{expect-onward}
 use Rattle.parser.proofs.Ready.{ready-step}

@@ -3,8 +3,8 @@
 use native.Mathlib.Omega.{arith}
 use mathlib.Core.Path.{refl}
 use borrow.Author.Needs.{needs}
-use Rattle.parser.specs.Parser.{size, untilStep, eat, comma, parseIdentifier}
-use Rattle.parser.specs.Promise.{stream}
+use Rattle.notation.specs.Parser.{size, untilStep, eat, comma, parseIdentifier}
+use Rattle.tokens.specs.Promise.{stream}
 use Rattle.parser.specs.Storing.{lent, nodesOf}
 use Rattle.parser.specs.declared.props.Comma.the-variants.{Must}
 use Rattle.parser.specs.declared.props.Parsed.the-variants as P

@@ -3,11 +3,11 @@
 use native.Mathlib.Omega.{arith}
 use mathlib.Core.Path.{_∙_}
 use borrow.Author.Needs.{needs}
-use Rattle.parser.specs.Limits.{repeats}
-use Rattle.parser.specs.Parser.{size}
-use Rattle.parser.specs.Promise.{stream}
+use Rattle.notation.specs.Limits.{repeats}
+use Rattle.notation.specs.Parser.{size}
+use Rattle.tokens.specs.Promise.{stream}
 use Rattle.parser.specs.Storing.{lent}
-use Rattle.parser.specs.Expressions.{parseRepeat}
+use Rattle.notation.specs.Expressions.{parseRepeat}
 use Rattle.parser.specs.Shapes.{repeatNodes}
 use Rattle.parser.proofs.Ready.{ready-on}
 use Rattle.parser.proofs.Lists.{Listing, listing-start}

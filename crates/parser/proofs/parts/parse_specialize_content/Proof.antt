@@ -3,7 +3,7 @@
 use native.Mathlib.Omega.{arith}
 use Rattle.parser.proofs.Ready.{part-short}
 use Rattle.parser.proofs.HeadRules.{content-part, content-stored, short-asks}
-use Rattle.parser.specs.Parser.{refuse}
+use Rattle.notation.specs.Parser.{refuse}
 use borrow.Author.Needs.{needs}
 use Rattle.parser.proofs.parts.parse_specialize_content.Statement.{statement}
 use Rattle.parser.proofs.parts.parse_specialize_content.Tie as tie

@@ -1,7 +1,7 @@
 -- `props::parse_part` meets its contract.
 -- Assumes nothing.
 use mathlib.Core.Path.{ap, _∙_}
-use Rattle.parser.specs.Promise.{codeIn, namePart, stringPart}
+use Rattle.tokens.specs.Promise.{codeIn, namePart, stringPart}
 use Rattle.parser.proofs.Ready.{ready-as, is-name, name-in}
 use Rattle.parser.proofs.PropRules.{name-value, dot-value, part-none, end-by, at-by, set-by, mark-by}
 use borrow.Author.Needs.{needs}

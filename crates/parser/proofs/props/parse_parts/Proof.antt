@@ -5,10 +5,10 @@ use Rattle.parser.proofs.Ready.{ready-on, listing-small}
 use Rattle.parser.proofs.Lists.{Listing, listing-start}
 use Rattle.parser.proofs.Openings.{turn-over, turn-refused, turn-more}
 use Rattle.parser.proofs.PropRules.{part-any}
-use Rattle.parser.specs.Parser.{size}
-use Rattle.parser.specs.Promise.{stream}
+use Rattle.notation.specs.Parser.{size}
+use Rattle.tokens.specs.Promise.{stream}
 use Rattle.parser.specs.Storing.{lent, nodesOf}
-use Rattle.parser.specs.Expressions.{parsePart}
+use Rattle.notation.specs.Expressions.{parsePart}
 use Rattle.tree.specs.Stored.{partBranch}
 use borrow.Author.Needs.{needs}
 use Rattle.parser.proofs.props.parse_parts.Statement.{statement}

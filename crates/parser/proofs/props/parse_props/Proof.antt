@@ -6,7 +6,7 @@ use Rattle.parser.proofs.Onward.{eat-onward}
 use Rattle.parser.proofs.Openings.{optional-none, optional-refused, optional-list}
 use Rattle.parser.specs.Storing.{nodesOf}
 use Rattle.tree.specs.Stored.{propBranch}
-use Rattle.parser.specs.Expressions.{parseProps}
+use Rattle.notation.specs.Expressions.{parseProps}
 use borrow.Author.Needs.{needs}
 use Rattle.parser.proofs.props.parse_props.Statement.{statement}
 use Rattle.parser.proofs.props.parse_props.Tie as tie

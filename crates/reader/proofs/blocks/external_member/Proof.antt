@@ -3,10 +3,10 @@
 use mathlib.Core.Path.{refl}
 use Rattle.basics.specs.Basics.{every}
 use Rattle.tree.specs.Stored.{namedNodeBranch}
-use Rattle.parser.specs.Members.{ExternalMember}
-use Rattle.parser.specs.Declarations.{parseNamedNode}
-use Rattle.parser.specs.Promise.{stream}
-use Rattle.parser.proofs.Stream.{at-whole}
+use Rattle.notation.specs.Members.{ExternalMember}
+use Rattle.notation.specs.Declarations.{parseNamedNode}
+use Rattle.tokens.specs.Promise.{stream}
+use Rattle.tokens.proofs.Stream.{at-whole}
 use Rattle.parser.proofs.Onward.{onward-here}
 use Rattle.parser.proofs.Ready.{ready-step}
 use Rattle.parser.proofs.Openings.{listed, listed-not}

@@ -5,7 +5,7 @@ use native.Mathlib.Omega.{arith}
 use mathlib.Core.Path.{refl}
 use Rattle.parser.specs.Storing.{lent}
 use Rattle.reader.proofs.Grouping.{Grouping, grouping-start, grouping-ready, grouping-small, grouping-done, grouping-less, grouping-next}
-use Rattle.parser.specs.Promise.{stream}
+use Rattle.tokens.specs.Promise.{stream}
 use Rattle.reader.specs.Blocks.{membersOf, kindOf, branchesOf, kindsOf}
 use Rattle.reader.proofs.GroupSizes.{kinds-few}
 use Rattle.reader.proofs.BlockGathered.{block-once}

@@ -3,10 +3,10 @@
 use mathlib.Core.Path.{refl, _∙_}
 use Rattle.basics.specs.Basics.{every}
 use Rattle.tree.specs.Stored.{ruleBranch, tokenPrecBranch, namedNodeBranch}
-use Rattle.parser.specs.Members.{LocalMember}
-use Rattle.parser.specs.Declarations.{parseRule, parseTokenPrecedence, parseNamedNode}
-use Rattle.parser.specs.Promise.{stream}
-use Rattle.parser.proofs.Stream.{at-whole}
+use Rattle.notation.specs.Members.{LocalMember}
+use Rattle.notation.specs.Declarations.{parseRule, parseTokenPrecedence, parseNamedNode}
+use Rattle.tokens.specs.Promise.{stream}
+use Rattle.tokens.proofs.Stream.{at-whole}
 use Rattle.parser.proofs.Onward.{onward-here}
 use Rattle.parser.proofs.Ready.{ready-step}
 use Rattle.declarations.proofs.BlocksLaws.{word-yes, word-no, word-not}

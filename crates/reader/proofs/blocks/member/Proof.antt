@@ -2,9 +2,9 @@
 -- Assumes nothing.
 use mathlib.Core.Path.{refl}
 use Rattle.tree.specs.Stored.{namedNodeBranch}
-use Rattle.parser.specs.Members.{ExternalMember}
-use Rattle.parser.specs.Declarations.{parseNamedNode}
-use Rattle.parser.specs.Promise.{stream}
+use Rattle.notation.specs.Members.{ExternalMember}
+use Rattle.notation.specs.Declarations.{parseNamedNode}
+use Rattle.tokens.specs.Promise.{stream}
 use Rattle.parser.proofs.Onward.{onward-here}
 use Rattle.reader.specs.declared.blocks.Block.the-variants.{Specializer}
 use Rattle.reader.proofs.MemberLaws.{joined, specializer-token}

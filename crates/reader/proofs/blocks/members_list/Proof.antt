@@ -2,8 +2,8 @@
 -- Assumes nothing.
 use native.Mathlib.Omega.{arith}
 use mathlib.Core.Path.{refl, _∙_}
-use Rattle.parser.specs.Parser.{size}
-use Rattle.parser.specs.Promise.{stream}
+use Rattle.notation.specs.Parser.{size}
+use Rattle.tokens.specs.Promise.{stream}
 use Rattle.parser.specs.Storing.{lent}
 use Rattle.parser.proofs.Ready.{ready-step, ready-on}
 use Rattle.parser.proofs.Openings.{item-onward}

@@ -3,10 +3,10 @@
 use mathlib.Core.Path.{refl}
 use Rattle.basics.specs.Basics.{every}
 use Rattle.tree.specs.Stored.{ruleBranch}
-use Rattle.parser.specs.Members.{SkipMember}
-use Rattle.parser.specs.Declarations.{parseRule}
-use Rattle.parser.specs.Promise.{stream}
-use Rattle.parser.proofs.Stream.{at-whole}
+use Rattle.notation.specs.Members.{SkipMember}
+use Rattle.notation.specs.Declarations.{parseRule}
+use Rattle.tokens.specs.Promise.{stream}
+use Rattle.tokens.proofs.Stream.{at-whole}
 use Rattle.parser.proofs.Onward.{onward-here}
 use Rattle.parser.proofs.Ready.{ready-step}
 use Rattle.declarations.proofs.BlocksLaws.{word-yes, word-no, word-not}

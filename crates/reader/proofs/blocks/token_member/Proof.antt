@@ -3,10 +3,10 @@
 use mathlib.Core.Path.{refl, _∙_}
 use Rattle.basics.specs.Basics.{every}
 use Rattle.tree.specs.Stored.{ruleBranch, tokenPrecBranch, tokenConflictBranch, literalBranch}
-use Rattle.parser.specs.Members.{TokenMember}
-use Rattle.parser.specs.Declarations.{parseRule, parseTokenPrecedence, parseTokenConflict}
-use Rattle.parser.specs.Promise.{stream}
-use Rattle.parser.proofs.Stream.{at-whole}
+use Rattle.notation.specs.Members.{TokenMember}
+use Rattle.notation.specs.Declarations.{parseRule, parseTokenPrecedence, parseTokenConflict}
+use Rattle.tokens.specs.Promise.{stream}
+use Rattle.tokens.proofs.Stream.{at-whole}
 use Rattle.parser.proofs.Onward.{onward-here}
 use Rattle.reader.specs.declared.blocks.Block.the-variants.{Tokens}
 use Rattle.reader.proofs.MemberLaws.{joined, at-says, says-token, token-literal, token-precedence, token-conflict, token-rule}

@@ -3,7 +3,7 @@
 use native.Mathlib.Omega.{arith}
 use mathlib.Core.Path.{_∙_}
 use Rattle.tree.specs.Stored.{declarationBranch}
-use Rattle.parser.specs.Declarations.{parseExternalSpecializer}
+use Rattle.notation.specs.Declarations.{parseExternalSpecializer}
 use Rattle.parser.specs.Storing.{nodesOf}
 use Rattle.parser.proofs.InnerLaws.{braced-read, braced-not}
 use Rattle.reader.specs.Directives.{specializeBy}

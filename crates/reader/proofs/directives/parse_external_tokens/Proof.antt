@@ -2,7 +2,7 @@
 -- Assumes nothing.
 use native.Mathlib.Omega.{arith}
 use Rattle.tree.specs.Stored.{declarationBranch}
-use Rattle.parser.specs.Declarations.{parseExternalTokens}
+use Rattle.notation.specs.Declarations.{parseExternalTokens}
 use Rattle.parser.specs.Storing.{nodesOf}
 use Rattle.reader.proofs.RoomyLaws.{roomy-step}
 use Rattle.reader.proofs.TopLaws.{past-not, past-onward, parses-past}

@@ -1,7 +1,7 @@
 -- `directives::parse_local_tokens` meets its contract.
 -- Assumes nothing.
 use native.Mathlib.Omega.{arith}
-use Rattle.parser.proofs.Stream.{name-whole}
+use Rattle.tokens.proofs.Stream.{name-whole}
 use Rattle.declarations.proofs.SourceLaws.{word-yes, word-no, word-not, word-onward}
 use Rattle.reader.proofs.RoomyLaws.{roomy-step}
 use Rattle.reader.proofs.Gathered.{gathered, gathered-not}

@@ -1,7 +1,7 @@
 -- `top::parse_context` meets its contract.
 -- Assumes nothing.
 use mathlib.Core.Bool.{false}
-use Rattle.parser.specs.Members.{declaration}
+use Rattle.notation.specs.Members.{declaration}
 use Rattle.parser.specs.Storing.{nodesOf}
 use Rattle.declarations.specs.Sources.{fromSource, fromBranch}
 use Rattle.reader.proofs.TopLaws.{start-within, past-not, past-ready, parses-past, contextBy, context-plain, context-second, context-first, declares-by}

@@ -4,7 +4,7 @@ use mathlib.Core.Bool.{false}
 use mathlib.Core.Path.{sym, _∙_}
 use Rattle.tree.specs.Stored.{ruleBranch}
 use Rattle.tree.specs.Syntax.{Declaration}
-use Rattle.parser.specs.Members.{declaration}
+use Rattle.notation.specs.Members.{declaration}
 use Rattle.parser.specs.Storing.{nodesOf}
 use Rattle.reader.proofs.RoomyLaws.{roomy-ready}
 use Rattle.reader.proofs.TopLaws.{rule-plain, declares-by, declares-as, declaration-rule, declaration-directive}

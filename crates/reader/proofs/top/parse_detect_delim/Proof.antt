@@ -1,7 +1,7 @@
 -- `top::parse_detect_delim` meets its contract.
 -- Assumes nothing.
-use Rattle.parser.specs.Parser.{pure}
-use Rattle.parser.specs.Members.{detectDelim}
+use Rattle.notation.specs.Parser.{pure}
+use Rattle.notation.specs.Members.{detectDelim}
 use Rattle.reader.proofs.TopLaws.{past-not, detect-declares}
 use borrow.Author.Needs.{needs}
 use Rattle.reader.proofs.top.parse_detect_delim.Statement.{statement}

@@ -5,9 +5,9 @@ use mathlib.Core.Path.{refl, _∙_}
 use Rattle.basics.specs.Basics.{every}
 use Rattle.tree.specs.Stored.{declarationBranch}
 use Rattle.tree.specs.Syntax.{Declaration}
-use Rattle.parser.specs.Members.{declaration}
+use Rattle.notation.specs.Members.{declaration}
 use Rattle.parser.specs.Storing.{nodesOf}
-use Rattle.parser.proofs.Stream.{at-whole}
+use Rattle.tokens.proofs.Stream.{at-whole}
 use Rattle.parser.proofs.Onward.{at-token}
 use Rattle.declarations.specs.Promise.{precedenceBranch}
 use Rattle.reader.specs.Directives.{tokensBranch, localBranch}

@@ -1,6 +1,6 @@
 -- `top::parse_external` meets its contract.
 -- Assumes nothing.
-use Rattle.parser.specs.Declarations.{parseExternalDeclaration}
+use Rattle.notation.specs.Declarations.{parseExternalDeclaration}
 use Rattle.reader.proofs.RoomyLaws.{roomy-ready, roomy-step}
 use Rattle.reader.proofs.TopLaws.{start-within, past-not, past-onward, external-past}
 use borrow.Author.Needs.{needs}

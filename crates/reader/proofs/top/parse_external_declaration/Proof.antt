@@ -5,10 +5,10 @@ use mathlib.Core.Path.{refl, _∙_}
 use Rattle.basics.specs.Basics.{every}
 use Rattle.tree.specs.Stored.{declarationBranch}
 use Rattle.tree.specs.Syntax.{extend, specialize}
-use Rattle.parser.specs.Members.{declaration}
-use Rattle.parser.specs.Declarations.{parseExternalTokens, parseExternalSpecializer, parseExternalPropSource}
+use Rattle.notation.specs.Members.{declaration}
+use Rattle.notation.specs.Declarations.{parseExternalTokens, parseExternalSpecializer, parseExternalPropSource}
 use Rattle.parser.specs.Storing.{nodesOf}
-use Rattle.parser.proofs.Stream.{name-whole}
+use Rattle.tokens.proofs.Stream.{name-whole}
 use Rattle.reader.proofs.RoomyLaws.{roomy-ready}
 use Rattle.reader.proofs.TopLaws.{past-then, says-word, said-token, plain-of, declares-by, declares-as, tokens-kind, specializer-kind, prop-source-kind, external-tokens, external-prop, external-extend, external-specialize, external-prop-source, external-other}
 use borrow.Author.Needs.{needs}

@@ -2,8 +2,8 @@
 -- Assumes nothing.
 use mathlib.Core.Bool.{false}
 use Rattle.tree.specs.Stored.{externalPropBranch}
-use Rattle.parser.specs.Members.{externalProp}
-use Rattle.parser.specs.Declarations.{parseExternalProp}
+use Rattle.notation.specs.Members.{externalProp}
+use Rattle.notation.specs.Declarations.{parseExternalProp}
 use Rattle.parser.specs.Storing.{nodesOf}
 use Rattle.reader.specs.Directives.{propAt}
 use Rattle.reader.proofs.TopLaws.{past-not, past-then, past-ready, parses-past, plain-prop, declares-by}

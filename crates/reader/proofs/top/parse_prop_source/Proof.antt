@@ -1,7 +1,7 @@
 -- `top::parse_prop_source` meets its contract.
 -- Assumes nothing.
 use Rattle.tree.specs.Stored.{declarationBranch}
-use Rattle.parser.specs.Declarations.{parseExternalPropSource}
+use Rattle.notation.specs.Declarations.{parseExternalPropSource}
 use Rattle.parser.specs.Storing.{nodesOf}
 use Rattle.declarations.specs.Sources.{fromBranch}
 use Rattle.reader.proofs.TopLaws.{parses-as, past-not, past-ready, parses-past, propSourceBy, prop-source-is, prop-source-nodes}

@@ -2,8 +2,8 @@
 -- Assumes nothing.
 use native.Mathlib.Omega.{arith}
 use mathlib.Core.Path.{refl}
-use Rattle.parser.specs.Parser.{size}
-use Rattle.parser.specs.Promise.{stream}
+use Rattle.notation.specs.Parser.{size}
+use Rattle.tokens.specs.Promise.{stream}
 use Rattle.parser.specs.Storing.{lent}
 use Rattle.reader.proofs.WholeLaws.{picks-at, picks-not}
 use Rattle.reader.proofs.Passing.{Passing, passing-start, passing-done, passing-roomy, passing-small, passing-refused, passing-more, is-token}

@@ -1,0 +1,1 @@
+// The definitions of the parser, and the laws of its loop; there is no code here.

@@ -1,0 +1,1 @@
+// The definition of the normal text, and laws about it; there is no code here.
