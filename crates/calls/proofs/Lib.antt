@@ -1,1 +1,4 @@
 pub mod ReadLaws
+pub mod NormalLaws
+pub mod CompareLaws
+pub mod Demands

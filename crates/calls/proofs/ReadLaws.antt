@@ -23,7 +23,7 @@ use Rattle.reader.specs.declared.whole.Whole.{Whole}
 use Rattle.reader.specs.declared.whole.Whole.the-variants as W
 use Rattle.grammar.specs.Reading.{tree, stopped, reading, longest}
 use Rattle.grammar.specs.Calls.{roomFor, read}
-use Rattle.calls.specs.Promise.{readOutcome}
+use Rattle.calls.specs.Promise.{readOutcome, Few}
 use Rattle.calls.specs.declared.ReadAnswer.the-variants.{Stored, Refused}
 
 -- ------------------------------------------------------------------ the reading of a text
@@ -89,6 +89,9 @@ module _ (s ws ts vs us : List ℕ) (h : length s ≤ longest) (e : check s ≡ 
   module _ (w : Whole) (k : Reads s ws ts vs us w) where
     pub parsed-stored : {n x : ℕ} → w ≡ W.Stored n x → readOutcome (Stored n x) vs us ≡ read s ws ts
     parsed-stored {n} {x} q = let y : Read s ws ts vs us n x = rw q at k in read-stored y
+
+    pub parsed-few : {n x : ℕ} → w ≡ W.Stored n x → Few s (Stored n x)
+    parsed-few {n} {x} q = let y : Read s ws ts vs us n x = rw q at k in y .few
 
     pub parsed-refused : (r : declared.Refusal) {c : Cause} {p : ℕ} → w ≡ W.Refused c p → refusalOf r ≡ refusalAt s (causeNumber c) p
         → readOutcome (Refused r) vs us ≡ read s ws ts

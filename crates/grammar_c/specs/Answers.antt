@@ -1,16 +1,45 @@
--- The answers of the calls as words.
+-- The answers of the calls as six words, and what the exported calls come to.
 -- Assumes nothing.
 use Prim.Native.Nat.{ℕ}
 use mathlib.Core.Path.{_≡_}
+use mathlib.Core.Bool.{Bool, true, false}
 use mathlib.Core.List.{List, [], _∷_}
-use Rattle.lexer_c.specs.Words.{laid}
-use Rattle.grammar.specs.Calls.{ReadAnswer, stored, refused, read}
+use Rattle.answers.specs.Words.{laid}
+use Rattle.error.specs.Lines.{Refusal}
+use Rattle.grammar.specs.Calls.{ReadAnswer, stored, read, NormalAnswer, written, normal, CompareAnswer, compared, compare}
 
--- 0 and the sizes of the tree, or a refusal
-abbrev pub answerWords : ReadAnswer → List ℕ
-answerWords (stored words bytes) = 0 ∷ 0 ∷ 0 ∷ 0 ∷ words ∷ bytes ∷ []
-answerWords (refused r) = r .cause ∷ r .place ∷ r .line ∷ r .column ∷ 0 ∷ 0 ∷ []
+-- cause, place, line and column
+abbrev pub refusalWords : Refusal → List ℕ
+refusalWords r = r .cause ∷ r .place ∷ r .line ∷ r .column ∷ 0 ∷ 0 ∷ []
 
--- what a text, and words and bytes that are lent, come to
+-- no cause, and the sizes of the tree
+abbrev pub readWords : ReadAnswer → List ℕ
+readWords (stored words bytes) = 0 ∷ 0 ∷ 0 ∷ 0 ∷ words ∷ bytes ∷ []
+readWords (ReadAnswer.refused r) = refusalWords r
+
+-- no cause, and the bytes of the normal text
+abbrev pub normalWords : NormalAnswer → List ℕ
+normalWords (written bytes) = 0 ∷ 0 ∷ 0 ∷ 0 ∷ bytes ∷ 0 ∷ []
+normalWords (NormalAnswer.refused r) = refusalWords r
+
+-- no cause, and 1 for equal
+abbrev pub bit : Bool → ℕ
+bit false = 0
+bit true = 1
+
+abbrev pub compareWords : CompareAnswer → List ℕ
+compareWords (compared equal) = 0 ∷ 0 ∷ 0 ∷ 0 ∷ bit equal ∷ 0 ∷ []
+compareWords (CompareAnswer.refused r) = refusalWords r
+
+-- what a text, and all that is lent, come to
 abbrev pub ReadsTo : (text records texts answer recordsAfter textsAfter answerAfter : List ℕ) → Type 0
-ReadsTo s rs ts ws rs₁ ts₁ ws₁ = (rs₁ ≡ read s rs ts .records) × (ts₁ ≡ read s rs ts .texts) × (ws₁ ≡ laid (answerWords (read s rs ts .answer)) ws)
+ReadsTo s rs ts ws rs₁ ts₁ ws₁ = (rs₁ ≡ read s rs ts .records) × (ts₁ ≡ read s rs ts .texts) × (ws₁ ≡ laid (readWords (read s rs ts .answer)) ws)
+
+abbrev pub WritesTo : (text records texts output answer recordsAfter textsAfter outputAfter answerAfter : List ℕ) → Type 0
+WritesTo s rs ts out ws rs₁ ts₁ out₁ ws₁ =
+    (rs₁ ≡ normal s rs ts out .records) × (ts₁ ≡ normal s rs ts out .texts) × (out₁ ≡ normal s rs ts out .output)
+    × (ws₁ ≡ laid (normalWords (normal s rs ts out .answer)) ws)
+
+-- what two trees come to
+abbrev pub ComparesTo : (leftRecords leftTexts rightRecords rightTexts answer answerAfter : List ℕ) → Type 0
+ComparesTo ls lts rs rts ws ws₁ = ws₁ ≡ laid (compareWords (compare ls lts rs rts)) ws

@@ -31,14 +31,14 @@ room-of words bytes g = refl
 
 module _ (records texts output : List ℕ) where
   -- there is no room for the text
-  abbrev noOutput : List ℕ → Bool
+  abbrev pub noOutput : List ℕ → Bool
   noOutput t = ltb longest (length t) || ltb (length output) (length t)
 
   normal-of : (text : List ℕ) → normal text records texts output ≡ normalBy text records texts output (roomFor (length records) (length texts) (reading text))
   unfolding normal reading roomFor normalBy
   normal-of text = refl
 
-  abbrev done : GrammarDeclaration ℕ → NormalOutcome
+  abbrev pub done : GrammarDeclaration ℕ → NormalOutcome
   done g = record { answer = written (length (normalText g)); records = over (grammarWords g) records; texts = over (grammarTexts g) texts; output = over (normalText g) output }
 
   write-of : (text : List ℕ) (g : GrammarDeclaration ℕ)
@@ -50,16 +50,16 @@ module _ (records texts output : List ℕ) where
   write-of text g = refl
 
   -- all three tests pass
-  record Room (g : GrammarDeclaration ℕ) : Type 0 where
-    words : ltb (length records) (length (grammarWords g)) ≡ false
-    bytes : ltb (length texts) (length (grammarTexts g)) ≡ false
-    room : noOutput (normalText g) ≡ false
+  pub record Room (g : GrammarDeclaration ℕ) : Type 0 where
+    pub words : ltb (length records) (length (grammarWords g)) ≡ false
+    pub bytes : ltb (length texts) (length (grammarTexts g)) ≡ false
+    pub room : noOutput (normalText g) ≡ false
 
   by-tree : (text : List ℕ) (g : GrammarDeclaration ℕ) → normalBy text records texts output (tree g) ≡ writeBy text records texts output g
   unfolding lineFeeds lineStart lineAt columnAt refusalAt normalBy writeBy
   by-tree text g = refl
 
-  wrote : (text : List ℕ) (g : GrammarDeclaration ℕ) → reading text ≡ tree g → Room g → normal text records texts output ≡ done g
+  pub wrote : (text : List ℕ) (g : GrammarDeclaration ℕ) → reading text ≡ tree g → Room g → normal text records texts output ≡ done g
   wrote text g e h = rw (normal-of text, e, room-of (length records) (length texts) g, h .words, h .bytes, by-tree text g, write-of text g, h .room)
 
   -- ------------------------------------------------------------------ it writes only then
@@ -75,16 +75,16 @@ module _ (records texts output : List ℕ) where
   not-written : {A : Type 0} {n : ℕ} (r : Refusal) → NormalAnswer.refused r ≡ written n → A
   not-written r e = let z : _≡_ {A = ℕ} 0 1 = cc in absurd (omega arith)
 
-  record Wrote (text : List ℕ) (n : ℕ) : Type 0 where
-    grammar : GrammarDeclaration ℕ
-    reads : reading text ≡ tree grammar
-    room : Room grammar
-    size : length (normalText grammar) ≡ n
+  pub record Wrote (text : List ℕ) (n : ℕ) : Type 0 where
+    pub grammar : GrammarDeclaration ℕ
+    pub reads : reading text ≡ tree grammar
+    pub room : Room grammar
+    pub size : length (normalText grammar) ≡ n
 
   same-size : {m n : ℕ} → written m ≡ written n → m ≡ n
   same-size e = cc
 
-  wrote-only : (text : List ℕ) (n : ℕ) → normal text records texts output .answer ≡ written n → Wrote text n
+  pub wrote-only : (text : List ℕ) (n : ℕ) → normal text records texts output .answer ≡ written n → Wrote text n
   wrote-only text n e = by-reading (reading text) refl (sym (ap (λ o. o .answer) (normal-of text)) ∙ e)
     where
       by-room : (g : GrammarDeclaration ℕ) → reading text ≡ tree g → ltb (length records) (length (grammarWords g)) ≡ false → ltb (length texts) (length (grammarTexts g)) ≡ false
@@ -113,7 +113,7 @@ module _ (records texts output : List ℕ) where
 
 -- ------------------------------------------------------------------ and so again
 
-or-left : (a b : Bool) → (a || b) ≡ false → a ≡ false
+pub or-left : (a b : Bool) → (a || b) ≡ false → a ≡ false
 or-left true b e = e
 or-left false b e = refl
 

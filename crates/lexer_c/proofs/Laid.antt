@@ -1,28 +1,16 @@
--- Words laid over others, and the words of answers.
+-- The words of answers.
 -- Assumes nothing.
 use mathlib.Core.Path.{_≡_, refl, _∙_, ap, subst}
 use mathlib.Core.List.{List}
-use Prim.Native.Nat.{ℕ, _+_, _≤_, _<_}
-use native.Mathlib.Omega.{arith}
-use lib.ListN.{length}
-use lib.Seq.{sets, sets-eq}
-use borrow.Author.Tests.{le-leb, lt-leb}
+use Prim.Native.Nat.{ℕ}
+use Rattle.answers.specs.Words.{laid}
 use Rattle.characters.specs.Spans.{Span}
 use Rattle.lexer.specs.Promise.{Reads, Checks}
 use Rattle.lexer.specs.declared.Kind.{Kind}
 use Rattle.lexer.specs.declared.Lexed.{Lexed}
 use Rattle.lexer.specs.declared.Lexed.the-variants.{Token}
 use Rattle.lexer.specs.declared.sets.Ranges.{Ranges}
-use Rattle.lexer_c.specs.Words.{laid, tokenWords, answerWords, Answers, rangesNumber, RangesSay}
-
-module _ (ws out : List ℕ) where
-  pub laid-in : length ws ≤ length out → sets out 0 ws ≡ laid ws out
-  unfolding laid
-  laid-in h = let e : 0 + length ws ≡ length ws = omega arith in rw (le-leb (length ws) (length out) h) (rw e at (sets-eq ws out 0 (omega arith)))
-
-  pub laid-out : length out < length ws → out ≡ laid ws out
-  unfolding laid
-  laid-out h = rw (lt-leb (length ws) (length out) h)
+use Rattle.lexer_c.specs.Words.{tokenWords, answerWords, Answers, rangesNumber, RangesSay}
 
 module _ {s : List ℕ} {from : ℕ} {out after : List ℕ} where
   pub answers : (l r : Lexed) → Reads s from l → l ≡ r → after ≡ laid (answerWords r) out → Answers s from out after

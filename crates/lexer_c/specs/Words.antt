@@ -3,10 +3,8 @@
 use Prim.Native.Nat.{ℕ}
 use mathlib.Core.Path.{_≡_}
 use mathlib.Core.Bool.{Bool, true, false}
-use mathlib.Core.List.{List, [], _∷_, _++_}
-use lib.Dec.{leb}
-use lib.ListN.{length, drop}
-use Rattle.basics.specs.Basics.{if_then_else_}
+use mathlib.Core.List.{List, [], _∷_}
+use Rattle.answers.specs.Words.{laid}
 use Rattle.characters.specs.Spans.{Span}
 use Rattle.lexer.specs.Promise.{Reads, Checks, number}
 use Rattle.lexer.specs.declared.Kind.{Kind}
@@ -15,10 +13,6 @@ use Rattle.lexer.specs.declared.Lexed.{Lexed}
 use Rattle.lexer.specs.declared.Lexed.the-variants.{Token, Eof, Refused}
 use Rattle.lexer.specs.declared.sets.Ranges.{Ranges}
 use Rattle.lexer.specs.declared.sets.Ranges.the-variants.{Sound, Reversed, Overlapping}
-
--- words laid over the first of others, where they fit
-unfoldable pub laid : List ℕ → List ℕ → List ℕ
-laid ws out = if leb (length ws) (length out) then ws ++ drop (length ws) out else out
 
 abbrev pub bit : Bool → ℕ
 bit false = 0

@@ -1,10 +1,10 @@
 // The lexer under plain names, for programs in Rust or C to link: compare/lexer does.
+use answers::put;
 use lexer::Cause;
 use lexer::Kind;
 use lexer::Lexed;
 use lexer::sets::Ranges;
 ghost use mathlib.Core.Path.{_≡_};
-ghost use mathlib.Core.List.{[], _∷_};
 ghost use Prim.Native.Nat.{_+_, _≤_};
 ghost use lib.ListN.{length};
 ghost use Rattle.characters.specs.Utf8.{codes, encodeAll};
@@ -12,7 +12,7 @@ ghost use Rattle.characters.specs.Promise.{writtenAll};
 ghost use Rattle.lexer.specs.Escapes.{decodeString};
 ghost use Rattle.lexer.specs.Sets.{spans};
 ghost use Rattle.lexer.specs.Promise.{stored, number};
-ghost use Rattle.lexer_c.specs.Words.{laid, Answers, RangesSay};
+ghost use Rattle.lexer_c.specs.Words.{Answers, RangesSay};
 
 // The first token from a place on, as six words: what it is (1 string, 2 at, 3 set, 4 punctuation, 5 identifier, 6 end, 7 refused),
 // its start and end, its part's start and end, and its quote, inversion or character. A refusal has its cause for the end.
@@ -58,21 +58,6 @@ fn cause_number(cause: Cause) -> u64
         Cause::AtWithoutName => 6,
         Cause::UnterminatedSet => 7,
     }
-}
-
-// Six words, where they fit.
-pub fn put(out: &mut [u64], a: u64, b: u64, c: u64, d: u64, e: u64, f: u64)
-    ensures { λ _. ⌜ now (out .exit) ≡ laid (a ∷ b ∷ c ∷ d ∷ e ∷ f ∷ []) (now (out .entry)) ⌝ }
-{
-    if out.len() < 6 {
-        return;
-    }
-    out[0] = a;
-    out[1] = b;
-    out[2] = c;
-    out[3] = d;
-    out[4] = e;
-    out[5] = f;
 }
 
 #[no_mangle]

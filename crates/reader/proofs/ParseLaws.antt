@@ -264,12 +264,16 @@ module _ (s : List ℕ) (r : Arrived) (h : (arrive (tokensAt s 0) ≡ arrival s 
               let h = g .counted in
               let k = d .counted in
               let l = g .lays .bound in
+              let o = placed-in s last (g .onward .lies) in
+              let q = grammar-words (startIn t) (g .found) in
+              let r = d .few in
               record {
                 arrives = first-arrives;
                 surveyed = record { members = g .found; gives = g .gives; onward = g .onward; bound = omega arith; space = g .lays .space };
                 noted = g .noted;
                 top = not-false (noted .top) has-top;
                 counted = omega arith;
+                few = omega arith;
                 words-fit = omega arith;
                 bytes-fit = omega arith;
               }

@@ -145,12 +145,14 @@ module _ {s : List ℕ} {t last : Current} {noted : Noted} {count : ℕ} {ws ts 
               let b = texts-end in
               let c = known .words-fit in
               let d = known .bytes-fit in
+              let q = known .few in
               record {
                 tree = grammarOf (startIn t) ms;
                 rest = stream s last;
                 gives = grammar-read (tokensAt s 0) (known .arrives) (known .surveyed .gives) (known .noted .top ∙ known .top) ∙ rw (start-of s t);
                 words-are = a;
                 bytes-are = b;
+                few = omega arith;
                 words-fit = omega arith;
                 bytes-fit = omega arith;
                 records = rw (words-of (grammarOf (startIn t) ms)) (front-words stores-all (omega arith));

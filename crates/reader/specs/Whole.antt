@@ -157,6 +157,7 @@ pub record Known (s : List ℕ) (t last : Current) (n : Noted) (count : ℕ) (ws
   pub noted : NotedIs s n (surveyed .members)
   pub top : n .top ≡ true
   pub counted : length (allOf memberKind memberBranches 0 (surveyed .members)) + length (lastNames (surveyed .members)) ≡ count
+  pub few : length (grammarWords (grammarOf (startIn t) (surveyed .members))) ≤ 28 * length s + 7
   pub words-fit : length (grammarWords (grammarOf (startIn t) (surveyed .members))) ≤ length ws
   pub bytes-fit : length (grammarTexts (grammarOf (startIn t) (surveyed .members))) ≤ length ts
 
@@ -166,13 +167,14 @@ pub record Known (s : List ℕ) (t last : Current) (n : Noted) (count : ℕ) (ws
 abbrev pub onto : List ℕ → List ℕ → List ℕ
 onto xs lent = xs ++ drop (length xs) lent
 
--- the tree is stored, and there was room for it
+-- the tree is stored, and there was room for it: at most four records for each byte of the text, and the grammar's
 pub record Read (s ws ts vs us : List ℕ) (words bytes : ℕ) : Type 0 where
   pub tree : GrammarDeclaration ℕ
   pub rest : Tokens ℕ
   pub gives : parseGrammar (tokensAt s 0) ≡ read tree rest
   pub words-are : words ≡ length (grammarWords tree)
   pub bytes-are : bytes ≡ length (grammarTexts tree)
+  pub few : words ≤ 28 * length s + 7
   pub words-fit : words ≤ length ws
   pub bytes-fit : bytes ≤ length ts
   pub records : vs ≡ onto (grammarWords tree) ws

@@ -3,7 +3,7 @@
 use mathlib.Core.Path.{sym, _∙_}
 use native.Mathlib.Omega.{arith}
 use Rattle.grammar.specs.Reading.{longest}
-use Rattle.calls.proofs.ReadLaws.{reading-long, reading-ill, read-refused, parsed-stored, parsed-refused}
+use Rattle.calls.proofs.ReadLaws.{reading-long, reading-ill, read-refused, parsed-stored, parsed-few, parsed-refused}
 use borrow.Author.Needs.{needs}
 use Rattle.calls.proofs.read.Statement.{statement}
 use Rattle.calls.proofs.read.Tie as tie
@@ -13,7 +13,7 @@ refuse-requires c κs = search needs
 
 returns : tie.Need-returns
 unfolding longest
-returns c = read-refused _ _ _ (c .refuse .result) (reading-long _ (c .before .if1 .taken)) (c .refuse .ensures)
+returns c = (read-refused _ _ _ (c .refuse .result) (reading-long _ (c .before .if1 .taken)) (c .refuse .ensures), tt)
 
 check-requires : tie.Need-check-requires
 check-requires c κs = search needs
@@ -41,7 +41,7 @@ refuse-requires-3 c κs = search needs
 
 returns-2 : tie.Need-returns-2
 unfolding longest
-returns-2 c = read-refused _ _ _ (c .refuse2 .result) (reading-ill _ (c .before .before .before .before .before .if1 .left) (sym (c .before .before .before .before .check .ensures) ∙ c .before .before .at .given .1)) (c .refuse2 .ensures)
+returns-2 c = (read-refused _ _ _ (c .refuse2 .result) (reading-ill _ (c .before .before .before .before .before .if1 .left) (sym (c .before .before .before .before .check .ensures) ∙ c .before .before .at .given .1)) (c .refuse2 .ensures), tt)
 
 same-length : tie.Need-same-length
 same-length c = search needs
@@ -51,7 +51,7 @@ same-length-2 c = search needs
 
 returns-3 : tie.Need-returns-3
 unfolding longest
-returns-3 c = parsed-stored _ _ _ _ _ (c .before .before .before .before .before .before .before .before .before .before .before .before .before .if1 .left) (sym (c .before .before .before .before .before .before .before .before .before .before .before .before .check .ensures) ∙ c .before .before .before .before .before .before .before .before .before .before .enum-told .given .1) (c .before .before .before .before .before .before .before .parse .result) (c .before .before .before .before .before .before .before .parse .ensures) (c .before .n .given .1)
+returns-3 c = (parsed-stored _ _ _ _ _ (c .before .before .before .before .before .before .before .before .before .before .before .before .before .if1 .left) (sym (c .before .before .before .before .before .before .before .before .before .before .before .before .check .ensures) ∙ c .before .before .before .before .before .before .before .before .before .before .enum-told .given .1) (c .before .before .before .before .before .before .before .parse .result) (c .before .before .before .before .before .before .before .parse .ensures) (c .before .n .given .1), parsed-few _ _ _ _ _ (c .before .before .before .before .before .before .before .before .before .before .before .before .before .if1 .left) (sym (c .before .before .before .before .before .before .before .before .before .before .before .before .check .ensures) ∙ c .before .before .before .before .before .before .before .before .before .before .enum-told .given .1) (c .before .before .before .before .before .before .before .parse .result) (c .before .before .before .before .before .before .before .parse .ensures) (c .before .n .given .1))
 
 same-length-3 : tie.Need-same-length-3
 same-length-3 c = search needs
@@ -61,7 +61,7 @@ same-length-4 c = search needs
 
 returns-4 : tie.Need-returns-4
 unfolding longest
-returns-4 c = parsed-refused _ _ _ _ _ (c .before .before .before .before .before .before .before .before .before .before .before .before .before .before .if1 .left) (sym (c .before .before .before .before .before .before .before .before .before .before .before .before .before .check .ensures) ∙ c .before .before .before .before .before .before .before .before .before .before .before .enum-told .given .1) (c .before .before .before .before .before .before .before .before .parse .result) (c .before .before .before .before .before .before .before .before .parse .ensures) (c .refuse3 .result) (c .before .before .cause .given .1) (c .refuse3 .ensures)
+returns-4 c = (parsed-refused _ _ _ _ _ (c .before .before .before .before .before .before .before .before .before .before .before .before .before .before .if1 .left) (sym (c .before .before .before .before .before .before .before .before .before .before .before .before .before .check .ensures) ∙ c .before .before .before .before .before .before .before .before .before .before .before .enum-told .given .1) (c .before .before .before .before .before .before .before .before .parse .result) (c .before .before .before .before .before .before .before .before .parse .ensures) (c .refuse3 .result) (c .before .before .cause .given .1) (c .refuse3 .ensures), tt)
 
 pub read-spec : {M : Type 1} → statement M
 read-spec =

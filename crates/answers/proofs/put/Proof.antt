@@ -1,10 +1,10 @@
--- `lexer_c::put` meets its contract. Assumes nothing.
+-- `answers::put` meets its contract. Assumes nothing.
 use borrow.Author.Needs.{needs}
 use native.Mathlib.Omega.{arith}
 use lib.ListN.{length-set}
-use Rattle.lexer_c.proofs.Laid.{laid-in, laid-out}
-use Rattle.lexer_c.proofs.put.Statement.{statement}
-use Rattle.lexer_c.proofs.put.Tie as tie
+use Rattle.answers.proofs.Laid.{laid-in, laid-out}
+use Rattle.answers.proofs.put.Statement.{statement}
+use Rattle.answers.proofs.put.Tie as tie
 
 returns : tie.Need-returns
 returns c = laid-out _ _ (omega arith)

@@ -1,0 +1,11 @@
+-- The words of an answer in what a caller lends for them.
+-- Assumes nothing.
+use Prim.Native.Nat.{ℕ}
+use mathlib.Core.List.{List, _++_}
+use lib.Dec.{leb}
+use lib.ListN.{length, drop}
+use Rattle.basics.specs.Basics.{if_then_else_}
+
+-- words laid over the first of others, where they fit
+unfoldable pub laid : List ℕ → List ℕ → List ℕ
+laid ws out = if leb (length ws) (length out) then ws ++ drop (length ws) out else out
