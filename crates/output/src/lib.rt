@@ -14,7 +14,7 @@ ghost use Rattle.spelling.specs.Spelling.{quoted, hexDigit, hexFrom, codeText, 
 ghost use Rattle.output.specs.Promise.{Adds, Wrote, digitAt};
 
 // One byte, where there is room.
-fn put_byte(out: &mut [u8], n: usize, b: u8) -> usize
+pub fn put_byte(out: &mut [u8], n: usize, b: u8) -> usize
     requires { ⌜ n + 1 < 2 ^ 64 ⌝ }
     ensures { λ r. ⌜ Adds (b ∷ []) (now (out .entry)) n (now (out .exit)) r ⌝ }
 {

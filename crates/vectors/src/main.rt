@@ -1,0 +1,114 @@
+// Replays stored texts: prints what the calls answer to each. The gate holds that against what the Rust and the second program answered
+// to the same texts (compare/vectors has how both files were made).
+//
+// Texts come on standard input, each ended by the byte 0x1E, which stands in none of them. For each its number is printed, and then the
+// line of a refusal; or a line for each record, the bytes of the texts in hexadecimal, and what `normal` prints.
+use calls::NormalAnswer;
+use calls::ReadAnswer;
+use error::Refusal;
+use libc::STDERR_FILENO;
+use libc::STDIN_FILENO;
+use libc::STDOUT_FILENO;
+use printing::Input;
+ghost use Prim.Native.Nat.{_≤_};
+ghost use lib.ListN.{length};
+
+const END: u8 = 0x1E;
+
+fn print_refusal(refusal: Refusal) {
+    let mut line = [0u8; 128];
+    let n = output::upto(printing::put_refusal(refusal, &mut line), 128);
+    io::write_all(STDOUT_FILENO, &line[..n]);
+}
+
+// Seven words a line.
+fn print_words(records: &[u32]) {
+    let mut i = 0;
+    while i < records.len() {
+        io::print_decimal(STDOUT_FILENO, records[i] as u64);
+        if i % 7 == 6 {
+            io::write_all(STDOUT_FILENO, b"\n");
+        } else {
+            io::write_all(STDOUT_FILENO, b" ");
+        }
+        i += 1;
+    }
+}
+
+fn print_bytes(texts: &[u8]) {
+    let mut i = 0;
+    while i < texts.len() {
+        io::print_hex(STDOUT_FILENO, texts[i] as u64, 2);
+        i += 1;
+    }
+    io::write_all(STDOUT_FILENO, b"\n");
+}
+
+fn print_normal(text: &[u8], records: &mut [u32], texts: &mut [u8]) {
+    let mut out = [0u8; 65535];
+    match calls::normal_text(text, records, texts, &mut out) {
+        NormalAnswer::Refused(refusal) => {
+            print_refusal(refusal);
+        }
+        NormalAnswer::Written(n) => {
+            io::write_all(STDOUT_FILENO, &out[..n]);
+        }
+    }
+}
+
+// As much is lent as by the program `normal`.
+fn replay(text: &[u8]) {
+    let mut records = [0u32; 14000];
+    let mut texts = [0u8; 32768];
+    match calls::read(text, &mut records, &mut texts) {
+        ReadAnswer::Refused(refusal) => {
+            print_refusal(refusal);
+        }
+        ReadAnswer::Stored(n, x) => {
+            print_words(&records[..n]);
+            print_bytes(&texts[..x]);
+            print_normal(text, &mut records, &mut texts);
+        }
+    }
+}
+
+// Where the text that begins at a place ends.
+fn text_end(input: &[u8], at: usize) -> usize
+    requires { ⌜ at ≤ length (now input) ⌝ }
+    ensures { λ r. ⌜ (at ≤ r) × (r ≤ length (now (input .entry))) ⌝ }
+{
+    let mut i = at;
+    while i < input.len() {
+        if input[i] == END {
+            return i;
+        }
+        i += 1;
+    }
+    i
+}
+
+fn replay_all(input: &[u8]) {
+    let mut at = 0;
+    let mut number: u64 = 0;
+    while at < input.len() {
+        let end = text_end(input, at);
+        io::write_all(STDOUT_FILENO, b"text ");
+        io::print_decimal(STDOUT_FILENO, number);
+        io::write_all(STDOUT_FILENO, b"\n");
+        replay(&input[at..end]);
+        at = end + 1;
+        number += 1;
+    }
+}
+
+fn main() {
+    let mut input = [0u8; 1048576];
+    match printing::read_all(STDIN_FILENO, &mut input) {
+        Input::Failed => {
+            io::write_all(STDERR_FILENO, b"vectors: cannot read standard input\n");
+        }
+        Input::Bytes(n) => {
+            replay_all(&input[..n]);
+        }
+    }
+}
