@@ -2,7 +2,6 @@
 use characters::Checked;
 use error::Cause;
 use error::Refusal;
-use reader::whole;
 use reader::whole::Whole;
 use tree::Comparison;
 use writer::Written;
@@ -39,7 +38,7 @@ pub fn read(text: &[u8], records: &mut [u32], texts: &mut [u8]) -> ReadAnswer
     }
     match characters::check(text) {
         Checked::IllAt(at) => ReadAnswer::Refused(error::refuse(text, Cause::NotUtf8, at)),
-        Checked::Good => match whole::parse(text, records, texts) {
+        Checked::Good => match input::parse(text, records, texts) {
             Whole::Stored(n, x) => ReadAnswer::Stored(n, x),
             Whole::Refused(cause, at) => ReadAnswer::Refused(error::refuse(text, cause, at)),
         },

@@ -20,7 +20,7 @@ use Rattle.tree.proofs.Encoded.{texts-append}
 use Rattle.notation.specs.Parser.{read, refused, andThen, _>>=_, pure, choose, startOf, here, refuseHere, arrive}
 use Rattle.notation.specs.Members.{Member, declared, detects}
 use Rattle.notation.specs.Declarations.{hasTop, grammarOf, parse, parseGrammar}
-use Rattle.tokens.specs.Promise.{stream, startIn, arrival, LiesIn, Lies}
+use Rattle.tokens.specs.Promise.{stream, startIn, arrival, Lies}
 use Rattle.parser.specs.Storing.{Lent, lent, node, flat, nodesOf}
 use Rattle.tokens.specs.declared.Current.{Current}
 use Rattle.tokens.specs.declared.Arrived.{Arrived}
@@ -33,7 +33,7 @@ use Rattle.parser.proofs.Ready.{arrived-at, arrived-not, flat-length}
 use Rattle.reader.specs.Groups.{allOf, groupsOf}
 use Rattle.reader.specs.Blocks.{Roomy}
 use Rattle.reader.specs.Directives.{memberKind, memberBranches}
-use Rattle.reader.specs.Whole.{members, lastNames, declaredKinds, storedKinds, HasNames, Names, NamesTo, Passes, PassesTo, Known, Stopped, by-text, by-words, by-bytes, Reads}
+use Rattle.reader.specs.Whole.{members, lastNames, declaredKinds, storedKinds, HasNames, Names, NamesTo, Passes, PassesTo, Known, First, Stopped, by-text, by-words, by-bytes, Reads}
 use Rattle.reader.specs.declared.whole.Noted.{Noted}
 use Rattle.reader.specs.declared.whole.Passed.{Passed}
 use Rattle.reader.specs.declared.whole.Passed.the-variants as P
@@ -154,129 +154,127 @@ module _ (s : List ℕ) (r : Arrived) (h : (arrive (tokensAt s 0) ≡ arrival s 
   pub stopped-first : {c : Cause} {p : ℕ} (ws ts : List ℕ) → r ≡ A.Refused c p → Stopped s ws ts (causeNumber c) p
   stopped-first ws ts q = by-text (grammar-not (tokensAt s 0) (arrived-not s r (h .0) q))
 
-  module _ {t : Current} (q : r ≡ A.At t) where
-    -- it is arrived at, it lies in the text, and all room is left
-    pub first-arrives : arrive (tokensAt s 0) ≡ read tt (stream s t)
-    first-arrives = arrived-at s r (h .0) q
+  -- it is arrived at, and lies in the text
+  pub first-is : {t : Current} → r ≡ A.At t → First s t
+  first-is q = record { arrives = arrived-at s r (h .0) q; lies = rw q at (h .1) }
 
-    pub first-lies : LiesIn s 0 t
-    first-lies = rw q at (h .1)
+module _ {s : List ℕ} {t : Current} (first : First s t) where
+  -- all room is left
+  pub first-roomy : length s ≤ 0x10000 → Roomy s t 0 0
+  first-roomy z = record { lies = first .lies; small = z; room = omega arith; space = omega arith }
 
-    pub first-roomy : length s ≤ 0x10000 → Roomy s t 0 0
-    first-roomy z = record { lies = first-lies; small = z; room = omega arith; space = omega arith }
+  -- a declaration behind it is refused
+  pub stopped-members : {c p : ℕ} (ws ts : List ℕ) → members (stream s t) ≡ refused c p → Stopped s ws ts c p
+  stopped-members ws ts f = by-text (grammar-halted (tokensAt s 0) (first .arrives) f)
 
-    -- a declaration behind it is refused
-    pub stopped-members : {c p : ℕ} (ws ts : List ℕ) → members (stream s t) ≡ refused c p → Stopped s ws ts c p
-    stopped-members ws ts f = by-text (grammar-halted (tokensAt s 0) first-arrives f)
+  -- ------------------------------------------------------------------ all is measured
 
-    -- ------------------------------------------------------------------ all is measured
+  module _ {last : Current} {n x count : ℕ} {noted : Noted} {es fs gs hs : List ℕ} (g : Passes 0 s t (lent 0 es 0 fs) last (lent n gs x hs) count noted) where
+    -- there is no top rule
+    pub stopped-top : {p : ℕ} (ws ts : List ℕ) → not (noted .top) ≡ true → p ≡ startIn last → Stopped s ws ts noTop p
+    stopped-top ws ts y e = by-text (grammar-topless (tokensAt s 0) (first .arrives) (g .gives) (g .noted .top ∙ not-true (noted .top) y) ∙ rw (start-of s last, e))
 
-    module _ {last : Current} {n x count : ℕ} {noted : Noted} {es fs gs hs : List ℕ} (g : Passes 0 s t (lent 0 es 0 fs) last (lent n gs x hs) count noted) where
-      -- there is no top rule
-      pub stopped-top : {p : ℕ} (ws ts : List ℕ) → not (noted .top) ≡ true → p ≡ startIn last → Stopped s ws ts noTop p
-      stopped-top ws ts y e = by-text (grammar-topless (tokensAt s 0) first-arrives (g .gives) (g .noted .top ∙ not-true (noted .top) y) ∙ rw (start-of s last, e))
+    -- there are names as is noted, and what was measured is small
+    pub measured-names : HasNames s noted
+    measured-names = record { the = lastNames (g .found); are = g .noted .named }
 
-      -- there are names as is noted, and what was measured is small
-      pub measured-names : HasNames s noted
-      measured-names = record { the = lastNames (g .found); are = g .noted .named }
+    pub measured-small : length s ≤ 0x10000 → (n ≤ 0x10000000) × (x ≤ 0x10000000)
+    measured-small z =
+        let a = g .lays .stores .words-end in
+        let b = g .lays .stores .texts-end in
+        let c = g .lays .bound in
+        let d = g .lays .space in
+        let o = placed-in s last (g .onward .lies) in
+        (omega arith, omega arith)
 
-      pub measured-small : length s ≤ 0x10000 → (n ≤ 0x10000000) × (x ≤ 0x10000000)
-      measured-small z =
+    measured-few : length s ≤ 0x10000 → count ≤ 0x20000
+    measured-few z =
+        let a = g .counted in
+        let b = flat-length (λ (x : Branch). x) (allOf memberKind memberBranches 0 (g .found)) in
+        let c = g .lays .bound in
+        let o = placed-in s last (g .onward .lies) in
+        omega arith
+
+    -- the names of the last `@dialects`, which are read again
+    module _ (a : Lent) (ws ts : List ℕ) (l : Listed) (i : NamesTo s noted a ws ts l) where
+      pub named-done : {u : Current} {m y named : ℕ} → l ≡ L.Done u m y named → Names (lastNames (g .found)) s a (lent m ws y ts) named
+      named-done {u} {m} {y} {named} e = let j : NamesTo s noted a ws ts (L.Done u m y named) = rw e at i in j (lastNames (g .found)) (g .noted .named)
+
+      pub named-always : {c : Cause} {p : ℕ} → l ≡ L.Refused c p → ⊥
+      named-always e = rw e at i
+
+    -- the tree, which is read where there is a top rule
+    abbrev grammarAt : GrammarDeclaration ℕ
+    grammarAt = grammarOf (startIn t) (g .found)
+
+    pub whole-read : not (noted .top) ≡ false → parseGrammar (tokensAt s 0) ≡ read grammarAt (stream s last)
+    whole-read y = grammar-read (tokensAt s 0) (first .arrives) (g .gives) (g .noted .top ∙ not-false (noted .top) y) ∙ rw (start-of s t)
+
+    module _ {m y named : ℕ} {ps qs rs os : List ℕ} (d : Names (lastNames (g .found)) s (lent n ps x qs) (lent m rs y os) named) where
+      -- its sizes are those that were measured
+      pub measured-words : length (grammarWords grammarAt) ≡ m + 7
+      measured-words =
           let a = g .lays .stores .words-end in
-          let b = g .lays .stores .texts-end in
-          let c = g .lays .bound in
-          let d = g .lays .space in
-          let o = placed-in s last (g .onward .lies) in
-          (omega arith, omega arith)
-
-      measured-few : length s ≤ 0x10000 → count ≤ 0x20000
-      measured-few z =
-          let a = g .counted in
-          let b = flat-length (λ (x : Branch). x) (allOf memberKind memberBranches 0 (g .found)) in
-          let c = g .lays .bound in
-          let o = placed-in s last (g .onward .lies) in
+          let b = d .stores .words-end in
+          let e = grammar-words (startIn t) (g .found) in
           omega arith
 
-      -- the names of the last `@dialects`, which are read again
-      module _ (a : Lent) (ws ts : List ℕ) (l : Listed) (i : NamesTo s noted a ws ts l) where
-        pub named-done : {u : Current} {m y named : ℕ} → l ≡ L.Done u m y named → Names (lastNames (g .found)) s a (lent m ws y ts) named
-        named-done {u} {m} {y} {named} e = let j : NamesTo s noted a ws ts (L.Done u m y named) = rw e at i in j (lastNames (g .found)) (g .noted .named)
+      pub measured-bytes : length (grammarTexts grammarAt) ≡ y
+      measured-bytes =
+          let a = g .lays .stores .texts-end in
+          let b = d .stores .texts-end in
+          let e = grammar-bytes (startIn t) (g .found) in
+          omega arith
 
-        pub named-always : {c : Cause} {p : ℕ} → l ≡ L.Refused c p → ⊥
-        named-always e = rw e at i
+      -- they fit 64 bits
+      pub measured-fits : length s ≤ 0x10000 → (m + 7 < 2 ^ 64) × (count + named < 2 ^ 64)
+      measured-fits z =
+          let a = measured-small z .0 in
+          let b = measured-few z in
+          let e = d .stores .words-end in
+          let f = d .few in
+          let h = d .counted in
+          let k = flat-length (nameBranch 24) (lastNames (g .found)) in
+          (omega arith, omega arith)
 
-      -- the tree, which is read where there is a top rule
-      abbrev grammarAt : GrammarDeclaration ℕ
-      grammarAt = grammarOf (startIn t) (g .found)
+      module _ (has-top : not (noted .top) ≡ false) {ws ts : List ℕ} where
+        -- there is no room for the words, or for the bytes; words and bytes are as they were
+        module _ {vs us : List ℕ} (v : vs ≡ ws) (u : us ≡ ts) where
+          pub stopped-words : length vs < m + 7 → Stopped s ws ts recordsFull 0 × (vs ≡ ws) × (us ≡ ts)
+          stopped-words i =
+              let e = measured-words in
+              let k = ap length v in
+              (by-words (record { tree = grammarAt; rest = stream s last; gives = whole-read has-top; over = omega arith; cause-is = refl; place-is = refl }), v, u)
 
-      pub whole-read : not (noted .top) ≡ false → parseGrammar (tokensAt s 0) ≡ read grammarAt (stream s last)
-      whole-read y = grammar-read (tokensAt s 0) first-arrives (g .gives) (g .noted .top ∙ not-false (noted .top) y) ∙ rw (start-of s t)
-
-      module _ {m y named : ℕ} {ps qs rs os : List ℕ} (d : Names (lastNames (g .found)) s (lent n ps x qs) (lent m rs y os) named) where
-        -- its sizes are those that were measured
-        pub measured-words : length (grammarWords grammarAt) ≡ m + 7
-        measured-words =
-            let a = g .lays .stores .words-end in
-            let b = d .stores .words-end in
-            let e = grammar-words (startIn t) (g .found) in
-            omega arith
-
-        pub measured-bytes : length (grammarTexts grammarAt) ≡ y
-        measured-bytes =
-            let a = g .lays .stores .texts-end in
-            let b = d .stores .texts-end in
-            let e = grammar-bytes (startIn t) (g .found) in
-            omega arith
-
-        -- they fit 64 bits
-        pub measured-fits : length s ≤ 0x10000 → (m + 7 < 2 ^ 64) × (count + named < 2 ^ 64)
-        measured-fits z =
-            let a = measured-small z .0 in
-            let b = measured-few z in
-            let e = d .stores .words-end in
-            let f = d .few in
-            let h = d .counted in
-            let k = flat-length (nameBranch 24) (lastNames (g .found)) in
-            (omega arith, omega arith)
-
-        module _ (has-top : not (noted .top) ≡ false) {ws ts : List ℕ} where
-          -- there is no room for the words, or for the bytes; words and bytes are as they were
-          module _ {vs us : List ℕ} (v : vs ≡ ws) (u : us ≡ ts) where
-            pub stopped-words : length vs < m + 7 → Stopped s ws ts recordsFull 0 × (vs ≡ ws) × (us ≡ ts)
-            stopped-words i =
-                let e = measured-words in
-                let k = ap length v in
-                (by-words (record { tree = grammarAt; rest = stream s last; gives = whole-read has-top; over = omega arith; cause-is = refl; place-is = refl }), v, u)
-
-            pub stopped-bytes : m + 7 ≤ length vs → length us < y → Stopped s ws ts textsFull 0 × (vs ≡ ws) × (us ≡ ts)
-            stopped-bytes i j =
-                let e = measured-words in
-                let f = measured-bytes in
-                let k = ap length v in
-                let l = ap length u in
-                (by-bytes (record { tree = grammarAt; rest = stream s last; gives = whole-read has-top; fits = omega arith; over = omega arith; cause-is = refl; place-is = refl }), v, u)
-
-          -- there is room for all
-          pub all-known : m + 7 ≤ length ws → y ≤ length ts → Known s t last noted (count + named) ws ts
-          all-known i j =
+          pub stopped-bytes : m + 7 ≤ length vs → length us < y → Stopped s ws ts textsFull 0 × (vs ≡ ws) × (us ≡ ts)
+          stopped-bytes i j =
               let e = measured-words in
               let f = measured-bytes in
-              let h = g .counted in
-              let k = d .counted in
-              let l = g .lays .bound in
-              let o = placed-in s last (g .onward .lies) in
-              let q = grammar-words (startIn t) (g .found) in
-              let r = d .few in
-              record {
-                arrives = first-arrives;
-                surveyed = record { members = g .found; gives = g .gives; onward = g .onward; bound = omega arith; space = g .lays .space };
-                noted = g .noted;
-                top = not-false (noted .top) has-top;
-                counted = omega arith;
-                few = omega arith;
-                words-fit = omega arith;
-                bytes-fit = omega arith;
-              }
+              let k = ap length v in
+              let l = ap length u in
+              (by-bytes (record { tree = grammarAt; rest = stream s last; gives = whole-read has-top; fits = omega arith; over = omega arith; cause-is = refl; place-is = refl }), v, u)
+
+        -- there is room for all
+        pub all-known : m + 7 ≤ length ws → y ≤ length ts → Known s t last noted (count + named) ws ts
+        all-known i j =
+            let e = measured-words in
+            let f = measured-bytes in
+            let h = g .counted in
+            let k = d .counted in
+            let l = g .lays .bound in
+            let o = placed-in s last (g .onward .lies) in
+            let q = grammar-words (startIn t) (g .found) in
+            let r = d .few in
+            record {
+              arrives = first .arrives;
+              surveyed = record { members = g .found; gives = g .gives; onward = g .onward; bound = omega arith; space = g .lays .space };
+              noted = g .noted;
+              top = not-false (noted .top) has-top;
+              counted = omega arith;
+              few = omega arith;
+              words-fit = omega arith;
+              bytes-fit = omega arith;
+            }
 
 -- in words and bytes that are the same
 pub reads-same : (s ws ts vs us qs bs : List ℕ) (r : Whole) → vs ≡ ws → us ≡ ts → Reads s vs us qs bs r → Reads s ws ts qs bs r

@@ -163,6 +163,11 @@ pub record Known (s : List ℕ) (t last : Current) (n : Noted) (count : ℕ) (ws
 
 -- ------------------------------------------------------------------ the whole
 
+-- the first token of a text; it lies in the text
+pub record First (s : List ℕ) (t : Current) : Type 0 where
+  pub arrives : arrive (tokensAt s 0) ≡ read tt (stream s t)
+  pub lies : LiesIn s 0 t
+
 -- over the front of what was lent; the rest of it is unchanged
 abbrev pub onto : List ℕ → List ℕ → List ℕ
 onto xs lent = xs ++ drop (length xs) lent

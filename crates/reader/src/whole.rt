@@ -1,13 +1,13 @@
-// The whole of a grammar file: `parse`. A first pass measures; then each group is stored in a pass of its own.
+// The whole of a grammar file, from its first token on. A first pass measures; then each group is stored in a pass of its own.
 use crate::directives::Declared;
 use crate::directives::Seen;
 use crate::top;
 use declarations::rules;
 use error::Cause;
-use parser::props::Listed;
-use parser::store;
 use tokens::Arrived;
 use tokens::Current;
+use parser::props::Listed;
+use parser::store;
 ghost use Prim.Native.Nat.{_≤_};
 ghost use mathlib.Core.Path.{_≡_};
 ghost use mathlib.Core.Bool.{_||_};
@@ -18,7 +18,7 @@ ghost use Rattle.tree.specs.Stored.{flag as flagD};
 ghost use Rattle.tokens.specs.Promise.{LiesIn};
 ghost use Rattle.parser.specs.Storing.{lent};
 ghost use Rattle.reader.specs.Blocks.{Roomy};
-ghost use Rattle.reader.specs.Whole.{PicksTo, recordsOf, noteOf, PassesTo, HasNames, NamesTo, storedKinds, Surveyed, GroupsTo, Known, Reads};
+ghost use Rattle.reader.specs.Whole.{PicksTo, recordsOf, noteOf, PassesTo, HasNames, NamesTo, storedKinds, Surveyed, GroupsTo, Known, First, Reads};
 
 // What a pass has seen: which kinds, a top rule, `@detectDelim`, a list of dialects, and where the last one begins.
 pub struct Noted {
@@ -300,32 +300,29 @@ fn store(
     }
 }
 
-// The tree of a text is measured, and stored where there is room for all of it.
-pub fn parse(source: &[u8], records: &mut [u32], texts: &mut [u8]) -> Whole
-    requires { ⌜ length (now source) ≤ 0x10000 ⌝ }
+// From the first token on, the tree of a text is measured, and stored where there is room for all of it.
+pub fn parse_from(source: &[u8], token: Current, records: &mut [u32], texts: &mut [u8]) -> Whole
+    requires { ⌜ (length (now source) ≤ 0x10000) × First (now source) token ⌝ }
     ensures { λ r. ⌜ Reads (now (source .entry)) (now (records .entry)) (now (texts .entry)) (now (records .exit)) (now (texts .exit)) r ⌝ }
 {
-    match tokens::arrive(source, 0) {
-        Arrived::Refused(cause, at) => Whole::Refused(cause, at),
-        Arrived::At(t) => match pass(source, t, 0, &mut records[..0], 0, &mut texts[..0], 0) {
-            Passed::Refused(cause, at) => Whole::Refused(cause, at),
-            Passed::Done(last, n, x, count, noted) => {
-                if !noted.top {
-                    return Whole::Refused(Cause::NoTop, tokens::start(last));
-                }
-                match dialects(source, noted, &mut records[..0], n, &mut texts[..0], x) {
-                    Listed::Refused(cause, at) => Whole::Refused(cause, at),
-                    Listed::Done(_, m, y, named) => {
-                        if records.len() < m + 7 {
-                            return Whole::Refused(Cause::RecordsFull, 0);
-                        }
-                        if texts.len() < y {
-                            return Whole::Refused(Cause::TextsFull, 0);
-                        }
-                        store(source, t, last, noted, count + named, records, texts)
+    match pass(source, token, 0, &mut records[..0], 0, &mut texts[..0], 0) {
+        Passed::Refused(cause, at) => Whole::Refused(cause, at),
+        Passed::Done(last, n, x, count, noted) => {
+            if !noted.top {
+                return Whole::Refused(Cause::NoTop, tokens::start(last));
+            }
+            match dialects(source, noted, &mut records[..0], n, &mut texts[..0], x) {
+                Listed::Refused(cause, at) => Whole::Refused(cause, at),
+                Listed::Done(_, m, y, named) => {
+                    if records.len() < m + 7 {
+                        return Whole::Refused(Cause::RecordsFull, 0);
                     }
+                    if texts.len() < y {
+                        return Whole::Refused(Cause::TextsFull, 0);
+                    }
+                    store(source, token, last, noted, count + named, records, texts)
                 }
             }
-        },
+        }
     }
 }

@@ -1,0 +1,44 @@
+-- `parse` meets its contract: its parameters are plain, so the borrow checker's part walks the code.
+-- Assumes nothing.
+use mathlib.Core.Path.{refl}
+use borrow.Author.Needs.{needs}
+use Rattle.reader.proofs.ParseLaws.{stopped-first, first-is}
+use Rattle.input.proofs.parse.Statement.{statement}
+use Rattle.input.proofs.parse.Tie as tie
+
+arrive-requires : tie.Need-arrive-requires
+arrive-requires c κs = search needs
+
+enum-known-cause : tie.Need-enum-known-cause
+enum-known-cause c = search needs
+
+enum-known-token : tie.Need-enum-known-token
+enum-known-token c = search needs
+
+parse-at-requires : tie.Need-parse-at-requires
+parse-at-requires c κs = (c .before .before .before .before .before .before .before .before .before .pre, first-is _ _ (c .before .before .before .before .before .arrive .ensures) (c .before .before .before .token .given .1))
+
+returns : tie.Need-returns
+returns c = (stopped-first _ _ (c .before .before .before .arrive .ensures) _ _ (c .before .cause .given .1), refl, refl)
+
+same-length : tie.Need-same-length
+same-length c = search needs
+
+same-length-2 : tie.Need-same-length-2
+same-length-2 c = search needs
+
+returns-2 : tie.Need-returns-2
+returns-2 c = search needs
+
+pub parse-spec : {M : Type 1} → statement M
+parse-spec =
+    tie.close
+    (tie.spec
+    arrive-requires
+    enum-known-cause
+    enum-known-token
+    parse-at-requires
+    returns
+    same-length
+    same-length-2
+    returns-2)
