@@ -32,7 +32,7 @@ use Rattle.calls.proofs.NormalLaws.{roomed}
 over-length : (xs lent : List ℕ) → length xs ≤ length lent → length (over xs lent) ≡ length lent
 over-length xs lent h = let a = length-append xs (drop (length xs) lent) in let b = length-drop (length xs) lent in omega arith
 
-or-right : (a b : Bool) → (a || b) ≡ false → b ≡ false
+pub or-right : (a b : Bool) → (a || b) ≡ false → b ≡ false
 or-right true b e = let z : _≡_ {A = ℕ} 0 1 = cc in absurd (omega arith)
 or-right false b e = e
 

@@ -31,10 +31,8 @@ fn print(text: &[u8]) {
     }
 }
 
-// One byte more than a text may have is read, so that a longer one is refused.
-fn main() {
-    let mut text = [0u8; 65536];
-    match printing::read_all(STDIN_FILENO, &mut text) {
+fn run(text: &mut [u8]) {
+    match printing::read_all(STDIN_FILENO, text) {
         Input::Failed => {
             io::write_all(STDERR_FILENO, b"normal: cannot read standard input\n");
         }
@@ -42,4 +40,10 @@ fn main() {
             print(&text[..n]);
         }
     }
+}
+
+// One byte more than a text may have is read, so that a longer one is refused.
+fn main() {
+    let mut text = [0u8; 65536];
+    run(&mut text);
 }

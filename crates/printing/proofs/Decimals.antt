@@ -14,7 +14,8 @@ use Rattle.basics.specs.Basics.{letters}
 use Rattle.basics.proofs.Tests.{cases}
 use Rattle.output.specs.Promise.{Adds, Wrote}
 use Rattle.output.proofs.Writes.{adds-then, then}
-use Rattle.grammar.specs.Program.{decimalFrom, decimal}
+use Rattle.error.specs.Lines.{Refusal}
+use Rattle.grammar.specs.Program.{decimalFrom, decimal, refusalLine}
 use Rattle.printing.specs.Promise.{DigitsOf, fromColumn, fromLine, fromPlace}
 
 -- what follows the digits stands behind them
@@ -76,3 +77,7 @@ pub numbered-then : (label : List ℕ) (v : ℕ) (rest : List ℕ) {old mid part
     → (at ≤ length mid) × (n ≤ length mid → at ≡ n) → Wrote rest (take (length mid - at) (drop at mid)) part m
     → Wrote (label ++ decimal v rest) old (putMid at (length mid - at) mid part) (n + m)
 numbered-then label v rest a h b = rw (digits-then 20 v rest, ← append-assoc label (decimal v []) rest) (then a h b)
+
+pub refusal-few : (r : Refusal) → length (refusalLine r) ≤ 107
+unfolding refusalLine
+refusal-few r = omega (arith, numbered-few (letters "refused ") (r .cause) (fromPlace (r .place) (r .line) (r .column)), place-few (r .place) (r .line) (r .column))

@@ -17,3 +17,7 @@ rest-within r xs {n} {m} h e k =
     let z : take (length xs - n) (drop n xs) ≡ drop n xs = take-all (length xs - n) (drop n xs) (simp length-drop (omega arith)) in
     let q : m ≤ length xs - n = rw (z, length-drop) at l in
     omega arith
+
+-- so many bytes came
+pub of-bytes : (r : Input) {n l : ℕ} → Within r l → r ≡ Bytes n → n ≤ l
+of-bytes r h e = rw e at h

@@ -30,7 +30,7 @@ fn read_some(fd: i32, buf: &mut [u8]) -> Input
 
 // Reads until the input ends or the buffer is full. A read that fails is not taken for the end.
 pub fn read_all(fd: i32, buf: &mut [u8]) -> Input
-    ensures { λ r. ⌜ Within r (length (now (buf .entry))) ⌝ }
+    ensures { λ r. ⌜ Within r (length (now (buf .exit))) ⌝ }
 {
     let mut n = 0;
     while n < buf.len() {

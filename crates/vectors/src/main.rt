@@ -15,10 +15,9 @@ ghost use lib.ListN.{length};
 
 const END: u8 = 0x1E;
 
-fn print_refusal(refusal: Refusal) {
-    let mut line = [0u8; 128];
-    let n = output::upto(printing::put_refusal(refusal, &mut line), 128);
-    io::write_all(STDOUT_FILENO, &line[..n]);
+fn print_refusal(refusal: Refusal, out: &mut [u8]) {
+    let n = output::upto(printing::put_refusal(refusal, out), out.len());
+    io::write_all(STDOUT_FILENO, &out[..n]);
 }
 
 // Seven words a line.
@@ -44,30 +43,29 @@ fn print_bytes(texts: &[u8]) {
     io::write_all(STDOUT_FILENO, b"\n");
 }
 
-fn print_normal(text: &[u8], records: &mut [u32], texts: &mut [u8]) {
-    let mut out = [0u8; 65535];
-    match calls::normal_text(text, records, texts, &mut out) {
+fn print_normal(text: &[u8], records: &mut [u32], texts: &mut [u8], out: &mut [u8]) {
+    match calls::normal_text(text, records, texts, out) {
         NormalAnswer::Refused(refusal) => {
-            print_refusal(refusal);
+            print_refusal(refusal, out);
         }
-        NormalAnswer::Written(n) => {
+        NormalAnswer::Written(m) => {
+            let n = output::upto(m, out.len());
             io::write_all(STDOUT_FILENO, &out[..n]);
         }
     }
 }
 
-// As much is lent as by the program `normal`.
-fn replay(text: &[u8]) {
-    let mut records = [0u32; 14000];
-    let mut texts = [0u8; 32768];
-    match calls::read(text, &mut records, &mut texts) {
+fn replay(text: &[u8], records: &mut [u32], texts: &mut [u8], out: &mut [u8]) {
+    match calls::read(text, records, texts) {
         ReadAnswer::Refused(refusal) => {
-            print_refusal(refusal);
+            print_refusal(refusal, out);
         }
-        ReadAnswer::Stored(n, x) => {
+        ReadAnswer::Stored(m, y) => {
+            let n = output::upto(m, records.len());
+            let x = output::upto(y, texts.len());
             print_words(&records[..n]);
             print_bytes(&texts[..x]);
-            print_normal(text, &mut records, &mut texts);
+            print_normal(text, records, texts, out);
         }
     }
 }
@@ -87,7 +85,7 @@ fn text_end(input: &[u8], at: usize) -> usize
     i
 }
 
-fn replay_all(input: &[u8]) {
+fn replay_all(input: &[u8], records: &mut [u32], texts: &mut [u8], out: &mut [u8]) {
     let mut at = 0;
     let mut number: u64 = 0;
     while at < input.len() {
@@ -95,20 +93,28 @@ fn replay_all(input: &[u8]) {
         io::write_all(STDOUT_FILENO, b"text ");
         io::print_decimal(STDOUT_FILENO, number);
         io::write_all(STDOUT_FILENO, b"\n");
-        replay(&input[at..end]);
+        replay(&input[at..end], records, texts, out);
         at = end + 1;
         number += 1;
     }
 }
 
-fn main() {
-    let mut input = [0u8; 1048576];
-    match printing::read_all(STDIN_FILENO, &mut input) {
+// As much is lent as by the program `normal`.
+fn run(input: &mut [u8]) {
+    let mut records = [0u32; 14000];
+    let mut texts = [0u8; 32768];
+    let mut out = [0u8; 65535];
+    match printing::read_all(STDIN_FILENO, input) {
         Input::Failed => {
             io::write_all(STDERR_FILENO, b"vectors: cannot read standard input\n");
         }
         Input::Bytes(n) => {
-            replay_all(&input[..n]);
+            replay_all(&input[..n], &mut records, &mut texts, &mut out);
         }
     }
+}
+
+fn main() {
+    let mut input = [0u8; 1048576];
+    run(&mut input);
 }

@@ -1,0 +1,50 @@
+-- `normal::answer` meets its contract. Assumes nothing.
+use borrow.Author.Needs.{needs}
+use Rattle.normal.proofs.Printed.{written-prints, refused-prints}
+use Rattle.normal.proofs.answer.Statement.{statement}
+use Rattle.normal.proofs.answer.Tie as tie
+
+slice-aggregate-normal-text : tie.Need-slice-aggregate-normal-text
+slice-aggregate-normal-text c = search needs
+
+slice-aggregate-normal-text-2 : tie.Need-slice-aggregate-normal-text-2
+slice-aggregate-normal-text-2 c = search needs
+
+normal-text-requires : tie.Need-normal-text-requires
+normal-text-requires c κs = search needs
+
+enum-known-n : tie.Need-enum-known-n
+enum-known-n c = search needs
+
+enum-known-refusal : tie.Need-enum-known-refusal
+enum-known-refusal c = search needs
+
+put-refusal-requires : tie.Need-put-refusal-requires
+put-refusal-requires c κs = search needs
+
+same-length : tie.Need-same-length
+same-length c = search needs
+
+returns : tie.Need-returns
+returns c = written-prints _ _ _ _ _ _ (c .before .before .before .before .before .before .before .before .before .before .before .before .before .pre) (c .before .before .before .before .before .before .before .normal-text .ensures) (c .before .n .given .1)
+
+same-length-2 : tie.Need-same-length-2
+same-length-2 c = search needs
+
+returns-2 : tie.Need-returns-2
+returns-2 c = refused-prints _ _ _ _ _ _ (c .before .before .before .before .before .before .before .before .before .before .before .before .before .before .before .before .before .pre) (c .before .before .before .before .before .before .before .before .before .before .before .normal-text .ensures) (c .before .before .before .before .before .refusal .given .1) (c .before .before .put-refusal .ensures)
+
+pub answer-spec : {M : Type 1} → statement M
+answer-spec =
+    tie.close
+    (tie.spec
+    slice-aggregate-normal-text
+    slice-aggregate-normal-text-2
+    normal-text-requires
+    enum-known-n
+    enum-known-refusal
+    put-refusal-requires
+    same-length
+    returns
+    same-length-2
+    returns-2)
