@@ -1,4 +1,5 @@
 pub mod Measured
+pub mod Tables
 pub mod Small
 pub mod Walked
 pub mod WalkedExpressions

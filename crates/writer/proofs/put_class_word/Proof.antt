@@ -1,8 +1,7 @@
 -- `writer::put_class_word` meets its contract: an arm for each number of the table, and the rest. Assumes nothing.
-use borrow.Author.Tests.{ne-eqb}
 use borrow.Author.Needs.{needs}
-use Rattle.writer.specs.Walk.{textFor}
-use Rattle.output.proofs.Writes.{wrote-none}
+use Rattle.writer.specs.Walk.{textFor, classWords}
+use Rattle.writer.proofs.Tables.{no-entry}
 use Rattle.writer.proofs.put_class_word.Statement.{statement}
 use Rattle.writer.proofs.put_class_word.Tie as tie
 
@@ -35,4 +34,4 @@ put-class-word-spec =
     (λ c. rw (c .before .before .before .before .before .match .keys5) (c .before .before .put5 .ensures))
     (λ c. search needs)
     (λ c. rw (c .before .before .before .before .before .match .keys6) (c .before .before .put6 .ensures))
-    (λ c. simp (ne-eqb _ _ (c .match .rest .0 .0 .0 .0 .0 .1), ne-eqb _ _ (c .match .rest .0 .0 .0 .0 .1), ne-eqb _ _ (c .match .rest .0 .0 .0 .1), ne-eqb _ _ (c .match .rest .0 .0 .1), ne-eqb _ _ (c .match .rest .0 .1), ne-eqb _ _ (c .match .rest .1)) (wrote-none _)))
+    (λ c. no-entry classWords _ _ (c .match .rest .0 .0 .0 .0 .0 .1, (c .match .rest .0 .0 .0 .0 .1, (c .match .rest .0 .0 .0 .1, (c .match .rest .0 .0 .1, (c .match .rest .0 .1, (c .match .rest .1, tt))))))))

@@ -1,8 +1,7 @@
 -- `writer::put_dialect_end` meets its contract: an arm for each number of the table, and the rest. Assumes nothing.
-use borrow.Author.Tests.{ne-eqb}
 use borrow.Author.Needs.{needs}
-use Rattle.writer.specs.Walk.{textFor}
-use Rattle.output.proofs.Writes.{wrote-none}
+use Rattle.writer.specs.Walk.{textFor, dialectEnds}
+use Rattle.writer.proofs.Tables.{no-entry}
 use Rattle.writer.proofs.put_dialect_end.Statement.{statement}
 use Rattle.writer.proofs.put_dialect_end.Tie as tie
 
@@ -15,4 +14,4 @@ put-dialect-end-spec =
     (λ c κs. search needs)
     (λ c. search needs)
     (λ c. rw (c .before .before .before .before .before .match .keys1) (c .before .before .put .ensures))
-    (λ c. simp (ne-eqb _ _ (c .match .rest .1)) (wrote-none _)))
+    (λ c. no-entry dialectEnds _ _ (c .match .rest .1, tt)))

@@ -1,8 +1,7 @@
 -- `writer::put_kind_word` meets its contract: an arm for each number of the table, and the rest. Assumes nothing.
-use borrow.Author.Tests.{ne-eqb}
 use borrow.Author.Needs.{needs}
-use Rattle.writer.specs.Walk.{textFor}
-use Rattle.output.proofs.Writes.{wrote-none}
+use Rattle.writer.specs.Walk.{textFor, kindWords}
+use Rattle.writer.proofs.Tables.{no-entry}
 use Rattle.writer.proofs.put_kind_word.Statement.{statement}
 use Rattle.writer.proofs.put_kind_word.Tie as tie
 
@@ -75,4 +74,4 @@ put-kind-word-spec =
     (λ c. rw (c .before .before .before .before .before .match .keys15) (c .before .before .put15 .ensures))
     (λ c. search needs)
     (λ c. rw (c .before .before .before .before .before .match .keys16) (c .before .before .put16 .ensures))
-    (λ c. simp (ne-eqb _ _ (c .match .rest .0 .0 .0 .0 .0 .0 .0 .0 .0 .0 .0 .0 .0 .0 .0 .1), ne-eqb _ _ (c .match .rest .0 .0 .0 .0 .0 .0 .0 .0 .0 .0 .0 .0 .0 .0 .1), ne-eqb _ _ (c .match .rest .0 .0 .0 .0 .0 .0 .0 .0 .0 .0 .0 .0 .0 .1), ne-eqb _ _ (c .match .rest .0 .0 .0 .0 .0 .0 .0 .0 .0 .0 .0 .0 .1), ne-eqb _ _ (c .match .rest .0 .0 .0 .0 .0 .0 .0 .0 .0 .0 .0 .1), ne-eqb _ _ (c .match .rest .0 .0 .0 .0 .0 .0 .0 .0 .0 .0 .1), ne-eqb _ _ (c .match .rest .0 .0 .0 .0 .0 .0 .0 .0 .0 .1), ne-eqb _ _ (c .match .rest .0 .0 .0 .0 .0 .0 .0 .0 .1), ne-eqb _ _ (c .match .rest .0 .0 .0 .0 .0 .0 .0 .1), ne-eqb _ _ (c .match .rest .0 .0 .0 .0 .0 .0 .1), ne-eqb _ _ (c .match .rest .0 .0 .0 .0 .0 .1), ne-eqb _ _ (c .match .rest .0 .0 .0 .0 .1), ne-eqb _ _ (c .match .rest .0 .0 .0 .1), ne-eqb _ _ (c .match .rest .0 .0 .1), ne-eqb _ _ (c .match .rest .0 .1), ne-eqb _ _ (c .match .rest .1)) (wrote-none _)))
+    (λ c. no-entry kindWords _ _ (c .match .rest .0 .0 .0 .0 .0 .0 .0 .0 .0 .0 .0 .0 .0 .0 .0 .1, (c .match .rest .0 .0 .0 .0 .0 .0 .0 .0 .0 .0 .0 .0 .0 .0 .1, (c .match .rest .0 .0 .0 .0 .0 .0 .0 .0 .0 .0 .0 .0 .0 .1, (c .match .rest .0 .0 .0 .0 .0 .0 .0 .0 .0 .0 .0 .0 .1, (c .match .rest .0 .0 .0 .0 .0 .0 .0 .0 .0 .0 .0 .1, (c .match .rest .0 .0 .0 .0 .0 .0 .0 .0 .0 .0 .1, (c .match .rest .0 .0 .0 .0 .0 .0 .0 .0 .0 .1, (c .match .rest .0 .0 .0 .0 .0 .0 .0 .0 .1, (c .match .rest .0 .0 .0 .0 .0 .0 .0 .1, (c .match .rest .0 .0 .0 .0 .0 .0 .1, (c .match .rest .0 .0 .0 .0 .0 .1, (c .match .rest .0 .0 .0 .0 .1, (c .match .rest .0 .0 .0 .1, (c .match .rest .0 .0 .1, (c .match .rest .0 .1, (c .match .rest .1, tt))))))))))))))))))

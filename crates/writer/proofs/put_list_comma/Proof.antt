@@ -1,8 +1,7 @@
 -- `writer::put_list_comma` meets its contract: an arm for each number of the table, and the rest. Assumes nothing.
-use borrow.Author.Tests.{ne-eqb}
 use borrow.Author.Needs.{needs}
-use Rattle.writer.specs.Walk.{textFor}
-use Rattle.output.proofs.Writes.{wrote-none}
+use Rattle.writer.specs.Walk.{textFor, listCommas}
+use Rattle.writer.proofs.Tables.{no-entry}
 use Rattle.writer.proofs.put_list_comma.Statement.{statement}
 use Rattle.writer.proofs.put_list_comma.Tie as tie
 
@@ -31,4 +30,4 @@ put-list-comma-spec =
     (λ c. rw (c .before .before .before .before .before .match .keys4) (c .before .before .put4 .ensures))
     (λ c. search needs)
     (λ c. rw (c .before .before .before .before .before .match .keys5) (c .before .before .put5 .ensures))
-    (λ c. simp (ne-eqb _ _ (c .match .rest .0 .0 .0 .0 .1), ne-eqb _ _ (c .match .rest .0 .0 .0 .1), ne-eqb _ _ (c .match .rest .0 .0 .1), ne-eqb _ _ (c .match .rest .0 .1), ne-eqb _ _ (c .match .rest .1)) (wrote-none _)))
+    (λ c. no-entry listCommas _ _ (c .match .rest .0 .0 .0 .0 .1, (c .match .rest .0 .0 .0 .1, (c .match .rest .0 .0 .1, (c .match .rest .0 .1, (c .match .rest .1, tt)))))))

@@ -1,8 +1,7 @@
 -- `writer::put_list_open` meets its contract: an arm for each number of the table, and the rest. Assumes nothing.
-use borrow.Author.Tests.{ne-eqb}
 use borrow.Author.Needs.{needs}
-use Rattle.writer.specs.Walk.{textFor}
-use Rattle.output.proofs.Writes.{wrote-none}
+use Rattle.writer.specs.Walk.{textFor, listOpens}
+use Rattle.writer.proofs.Tables.{no-entry}
 use Rattle.writer.proofs.put_list_open.Statement.{statement}
 use Rattle.writer.proofs.put_list_open.Tie as tie
 
@@ -27,4 +26,4 @@ put-list-open-spec =
     (λ c. rw (c .before .before .before .before .before .match .keys3) (c .before .before .put3 .ensures))
     (λ c. search needs)
     (λ c. rw (c .before .before .before .before .before .match .keys4) (c .before .before .put4 .ensures))
-    (λ c. simp (ne-eqb _ _ (c .match .rest .0 .0 .0 .1), ne-eqb _ _ (c .match .rest .0 .0 .1), ne-eqb _ _ (c .match .rest .0 .1), ne-eqb _ _ (c .match .rest .1)) (wrote-none _)))
+    (λ c. no-entry listOpens _ _ (c .match .rest .0 .0 .0 .1, (c .match .rest .0 .0 .1, (c .match .rest .0 .1, (c .match .rest .1, tt))))))

@@ -1,8 +1,7 @@
 -- `writer::put_specialize_word` meets its contract: an arm for each number of the table, and the rest. Assumes nothing.
-use borrow.Author.Tests.{ne-eqb}
 use borrow.Author.Needs.{needs}
-use Rattle.writer.specs.Walk.{textFor}
-use Rattle.output.proofs.Writes.{wrote-none}
+use Rattle.writer.specs.Walk.{textFor, specializeWords}
+use Rattle.writer.proofs.Tables.{no-entry}
 use Rattle.writer.proofs.put_specialize_word.Statement.{statement}
 use Rattle.writer.proofs.put_specialize_word.Tie as tie
 
@@ -19,4 +18,4 @@ put-specialize-word-spec =
     (λ c. rw (c .before .before .before .before .before .match .keys1) (c .before .before .put .ensures))
     (λ c. search needs)
     (λ c. rw (c .before .before .before .before .before .match .keys2) (c .before .before .put2 .ensures))
-    (λ c. simp (ne-eqb _ _ (c .match .rest .0 .1), ne-eqb _ _ (c .match .rest .1)) (wrote-none _)))
+    (λ c. no-entry specializeWords _ _ (c .match .rest .0 .1, (c .match .rest .1, tt))))
