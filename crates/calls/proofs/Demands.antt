@@ -9,6 +9,8 @@ use lib.Dec.{ltb}
 use lib.ListN.{length, take, drop, length-append, length-drop}
 use lib.Seq.{take-append-seam}
 use borrow.Author.Tests.{lt-ltb, le-ltb, ltb-false}
+use Rattle.error.specs.Causes.{outputFull}
+use Rattle.error.specs.Lines.{refusalAt}
 use Rattle.tree.specs.Syntax.{GrammarDeclaration}
 use Rattle.tree.specs.Stored.{grammarWords, grammarTexts}
 use Rattle.spelling.specs.NormalText.{normalText}
@@ -19,8 +21,8 @@ use Rattle.grammar.specs.Calls.{over, roomFor, ReadOutcome, readBy, read, Norma
 use Rattle.laws.specs.Demand3.{Accepted}
 use Rattle.laws.proofs.Demand3.{normal-texts-are-accepted, equal-when-trees-agree, agreeing-trees-take-the-same-room}
 use Rattle.laws.proofs.Calls.{Room, wrote, wrote-only, or-left}
-use Rattle.calls.specs.Promise.{readOutcome, ReadTo, normalAnswer, NormalTo}
-use Rattle.calls.specs.Demands.{ReadIsSettled, NormalTextIsSettled, StructurallyEqIsSettled, RefusedAs, StoredAs, Answers, ReadAnswersAsDefined, EqualExactlyWhenTreesAgree, Agreeing, NormalTextsAreTheirOwn, NormalTextIsWritten}
+use Rattle.calls.specs.Promise.{readOutcome, ReadTo, normalAnswer, normalOutcome, NormalTo}
+use Rattle.calls.specs.Demands.{ReadIsSettled, NormalTextIsSettled, StructurallyEqIsSettled, RefusedAs, StoredAs, Answers, ReadAnswersAsDefined, EqualExactlyWhenTreesAgree, Agreeing, NormalTextsAreTheirOwn, NormalTextIsWritten, NormalTextIsTooLong}
 use Rattle.calls.specs.declared.ReadAnswer.{ReadAnswer}
 use Rattle.calls.specs.declared.NormalAnswer.{NormalAnswer}
 use Rattle.calls.specs.declared.NormalAnswer.the-variants.{Written, Refused}
@@ -171,6 +173,14 @@ normal-text-is-written s ws ts out g e h i j k = written-all s ws ts out g e roo
           bytes = le-ltb (length ts) (length (grammarTexts g)) i;
           room = rw (le-ltb longest (length (normalText g)) j, le-ltb (length out) (length (normalText g)) k);
         }
+
+pub normal-text-is-too-long : NormalTextIsTooLong
+unfolding normal normalBy roomFor writeBy
+normal-text-is-too-long s ws ts out g e h i j r vs us new a =
+    let o : normalOutcome r vs us new
+    ≡ record { answer = Calls.NormalAnswer.refused (refusalAt s outputFull 0); records = over (grammarWords g) ws; texts = over (grammarTexts g) ts; output = out } =
+    rw (normal, e, roomFor, le-ltb (length ws) (length (grammarWords g)) h, le-ltb (length ts) (length (grammarTexts g)) i, normalBy, writeBy, j) at a in
+    (ap (λ (o : NormalOutcome). o .answer) o, ap (λ (o : NormalOutcome). o .records) o, ap (λ (o : NormalOutcome). o .texts) o, ap (λ (o : NormalOutcome). o .output) o)
 
 pub normal-texts-are-their-own : NormalTextsAreTheirOwn
 normal-texts-are-their-own s ws ts out n vs us new a xs ys put e f i r zs qs other b =

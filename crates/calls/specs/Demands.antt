@@ -6,16 +6,17 @@ use mathlib.Core.Path.{_≡_}
 use mathlib.Core.Bool.{true}
 use mathlib.Core.List.{List}
 use lib.ListN.{length, take}
-use Rattle.error.specs.Causes.{recordsFull, textsFull}
+use Rattle.error.specs.Causes.{recordsFull, textsFull, outputFull}
 use Rattle.error.specs.Lines.{refusalAt}
 use Rattle.tree.specs.Syntax.{GrammarDeclaration}
 use Rattle.tree.specs.Stored.{grammarWords, grammarTexts}
 use Rattle.tree.specs.Equality.{agree}
 use Rattle.spelling.specs.NormalText.{normalText}
+use Rattle.writer.specs.Promise.{tooLong}
 use Rattle.grammar.specs.Reading.{tree, stopped, reading, longest}
 use Rattle.grammar.specs.Calls as Calls
 use Rattle.grammar.specs.Calls.{over}
-use Rattle.calls.specs.Promise.{readAnswer, readOutcome, ReadTo, normalOutcome, NormalTo, compareAnswer, CompareTo}
+use Rattle.calls.specs.Promise.{readAnswer, readOutcome, ReadTo, normalAnswer, normalOutcome, NormalTo, compareAnswer, CompareTo}
 use Rattle.calls.specs.declared.ReadAnswer.{ReadAnswer}
 use Rattle.calls.specs.declared.NormalAnswer.{NormalAnswer}
 use Rattle.calls.specs.declared.NormalAnswer.the-variants.{Written}
@@ -105,3 +106,11 @@ NormalTextIsWritten =
     → length (normalText g) ≤ longest → length (normalText g) ≤ length out
     → (r : NormalAnswer) (vs us new : List ℕ) → NormalTo s ws ts out r vs us new
     → (r ≡ Written (length (normalText g))) × (vs ≡ over (grammarWords g) ws) × (us ≡ over (grammarTexts g) ts) × (new ≡ over (normalText g) out)
+
+-- Else, with the tree's room lent, it is refused with 24 at place 0: the output is as it was, records and texts hold the tree.
+abbrev pub NormalTextIsTooLong : Type 0
+NormalTextIsTooLong =
+    (s ws ts out : List ℕ) (g : Tree) → reading s ≡ tree g → length (grammarWords g) ≤ length ws → length (grammarTexts g) ≤ length ts
+    → tooLong longest (normalText g) out ≡ true
+    → (r : NormalAnswer) (vs us new : List ℕ) → NormalTo s ws ts out r vs us new
+    → (normalAnswer r ≡ Calls.NormalAnswer.refused (refusalAt s outputFull 0)) × (vs ≡ over (grammarWords g) ws) × (us ≡ over (grammarTexts g) ts) × (new ≡ out)
