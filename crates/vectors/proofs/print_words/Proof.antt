@@ -1,67 +1,54 @@
+-- `vectors::print_words` meets its contract. Assumes nothing.
+use borrow.Author.Needs.{needs}
+use Prim.Native.Nat.{_-_, _≤_}
+use lib.ListN.{length}
 use Rattle.vectors.proofs.print_words.Statement.{statement}
 use Rattle.vectors.proofs.print_words.Tie as tie
-use Rattle.vectors.proofs.print_words.Reads as reads
-use Rattle.vectors.proofs.print_words.Lts as lts
-use Rattle.io.proofs.print_decimal.Reads as print-decimal-reads
-use Rattle.io.proofs.write_all.Reads as write-all-reads
 
 abbrev Inv-loop : tie.InvT-loop
-Inv-loop records i₀ t3 t4 i = ?
+Inv-loop records i₀ t3 t4 i = i ≤ length records
 
 abbrev μ-loop : tie.MeasureT-loop
-μ-loop records i₀ t3 t4 i = ?
+μ-loop records i₀ t3 t4 i = length records - i
 
--- src/main.rt:26:5
 loop-holds : tie.Need-loop-holds Inv-loop μ-loop
-loop-holds c = ?
+loop-holds c = search needs
 
--- src/main.rt:27:42
 mul-print-decimal : tie.Need-mul-print-decimal Inv-loop μ-loop
-mul-print-decimal c = ?
+mul-print-decimal c = search needs
 
--- src/main.rt:27:42
 shared-slice-read-print-decimal : tie.Need-shared-slice-read-print-decimal Inv-loop μ-loop
-shared-slice-read-print-decimal c = ?
+shared-slice-read-print-decimal c = search needs
 
--- src/main.rt:27:42
 cast-print-decimal : tie.Need-cast-print-decimal Inv-loop μ-loop
-cast-print-decimal c = ?
+cast-print-decimal c = search needs
 
--- src/main.rt:27:9
 print-decimal-requires : tie.Need-print-decimal-requires Inv-loop μ-loop
-print-decimal-requires c κs = ?
+print-decimal-requires c κs = search needs
 
--- src/main.rt:29:42
 slice-aggregate-write-all : tie.Need-slice-aggregate-write-all Inv-loop μ-loop
-slice-aggregate-write-all c = ?
+slice-aggregate-write-all c = search needs
 
--- src/main.rt:29:13
 write-all-requires : tie.Need-write-all-requires Inv-loop μ-loop
-write-all-requires c κs = ?
+write-all-requires c κs = search needs
 
--- src/main.rt:31:42
 slice-aggregate-write-all-2 : tie.Need-slice-aggregate-write-all-2 Inv-loop μ-loop
-slice-aggregate-write-all-2 c = ?
+slice-aggregate-write-all-2 c = search needs
 
--- src/main.rt:31:13
 write-all-requires-2 : tie.Need-write-all-requires-2 Inv-loop μ-loop
-write-all-requires-2 c κs = ?
+write-all-requires-2 c κs = search needs
 
--- src/main.rt:33:9
 add-i : tie.Need-add-i Inv-loop μ-loop
-add-i c = ?
+add-i c = search needs
 
--- src/main.rt:26:5
 loop-less : tie.Need-loop-less Inv-loop μ-loop
-loop-less c = ?
+loop-less c = search needs
 
--- src/main.rt:26:5
 loop-again : tie.Need-loop-again Inv-loop μ-loop
-loop-again c = ?
+loop-again c = search needs
 
--- src/main.rt:24:1
 returns : tie.Need-returns Inv-loop μ-loop
-returns c = ?
+returns c = search needs
 
 pub print-words-spec : {M : Type 1} → statement M
 print-words-spec =

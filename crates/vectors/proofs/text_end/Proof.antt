@@ -1,41 +1,36 @@
+-- `vectors::text_end` meets its contract. Assumes nothing.
+use borrow.Author.Needs.{needs}
+use Prim.Native.Nat.{_-_, _≤_}
+use lib.ListN.{length}
 use Rattle.vectors.proofs.text_end.Statement.{statement}
 use Rattle.vectors.proofs.text_end.Tie as tie
-use Rattle.vectors.proofs.text_end.Reads as reads
-use Rattle.vectors.proofs.text_end.Lts as lts
 
 abbrev Inv-loop : tie.InvT-loop
-Inv-loop input at i₀ i = ?
+Inv-loop input at i₀ i = (at ≤ i) × (i ≤ length input)
 
 abbrev μ-loop : tie.MeasureT-loop
-μ-loop input at i₀ i = ?
+μ-loop input at i₀ i = length input - i
 
--- src/main.rt:79:5
 loop-holds : tie.Need-loop-holds Inv-loop μ-loop
-loop-holds c = ?
+loop-holds c = search needs
 
--- src/main.rt:80:12
 shared-slice-read-if1 : tie.Need-shared-slice-read-if1 Inv-loop μ-loop
-shared-slice-read-if1 c = ?
+shared-slice-read-if1 c = search needs
 
--- src/main.rt:81:13
 returns : tie.Need-returns Inv-loop μ-loop
-returns c = ?
+returns c = search needs
 
--- src/main.rt:83:9
 add-i : tie.Need-add-i Inv-loop μ-loop
-add-i c = ?
+add-i c = search needs
 
--- src/main.rt:79:5
 loop-less : tie.Need-loop-less Inv-loop μ-loop
-loop-less c = ?
+loop-less c = search needs
 
--- src/main.rt:79:5
 loop-again : tie.Need-loop-again Inv-loop μ-loop
-loop-again c = ?
+loop-again c = search needs
 
--- src/main.rt:74:1
 returns-2 : tie.Need-returns-2 Inv-loop μ-loop
-returns-2 c = ?
+returns-2 c = search needs
 
 pub text-end-spec : {M : Type 1} → statement M
 text-end-spec =
