@@ -20,11 +20,19 @@ fn print_refusal(refusal: Refusal, out: &mut [u8]) {
     io::write_all(STDOUT_FILENO, &out[..n]);
 }
 
+fn word(x: u32) -> u64 {
+    x as u64
+}
+
+fn byte(x: u8) -> u64 {
+    x as u64
+}
+
 // Seven words a line.
 fn print_words(records: &[u32]) {
     let mut i = 0;
     while i < records.len() {
-        io::print_decimal(STDOUT_FILENO, records[i] as u64);
+        io::print_decimal(STDOUT_FILENO, word(records[i]));
         if i % 7 == 6 {
             io::write_all(STDOUT_FILENO, b"\n");
         } else {
@@ -37,7 +45,7 @@ fn print_words(records: &[u32]) {
 fn print_bytes(texts: &[u8]) {
     let mut i = 0;
     while i < texts.len() {
-        io::print_hex(STDOUT_FILENO, texts[i] as u64, 2);
+        io::print_hex(STDOUT_FILENO, byte(texts[i]), 2);
         i += 1;
     }
     io::write_all(STDOUT_FILENO, b"\n");
@@ -94,6 +102,9 @@ fn replay_all(input: &[u8], records: &mut [u32], texts: &mut [u8], out: &mut [u8
         io::print_decimal(STDOUT_FILENO, number);
         io::write_all(STDOUT_FILENO, b"\n");
         replay(&input[at..end], records, texts, out);
+        if end == input.len() {
+            return;
+        }
         at = end + 1;
         number += 1;
     }
@@ -115,6 +126,6 @@ fn run(input: &mut [u8]) {
 }
 
 fn main() {
-    let mut input = [0u8; 1048576];
+    let mut input = [0u8; 262144];
     run(&mut input);
 }

@@ -14,14 +14,14 @@ abbrev μ-loop : tie.MeasureT-loop
 loop-holds : tie.Need-loop-holds Inv-loop μ-loop
 loop-holds c = search needs
 
-mul-print-decimal : tie.Need-mul-print-decimal Inv-loop μ-loop
-mul-print-decimal c = search needs
+mul-word : tie.Need-mul-word Inv-loop μ-loop
+mul-word c = search needs
 
-shared-slice-read-print-decimal : tie.Need-shared-slice-read-print-decimal Inv-loop μ-loop
-shared-slice-read-print-decimal c = search needs
+shared-slice-read-word : tie.Need-shared-slice-read-word Inv-loop μ-loop
+shared-slice-read-word c = search needs
 
-cast-print-decimal : tie.Need-cast-print-decimal Inv-loop μ-loop
-cast-print-decimal c = search needs
+word-requires : tie.Need-word-requires Inv-loop μ-loop
+word-requires c κs = search needs
 
 print-decimal-requires : tie.Need-print-decimal-requires Inv-loop μ-loop
 print-decimal-requires c κs = search needs
@@ -57,9 +57,9 @@ print-words-spec =
     Inv-loop
     μ-loop
     loop-holds
-    mul-print-decimal
-    shared-slice-read-print-decimal
-    cast-print-decimal
+    mul-word
+    shared-slice-read-word
+    word-requires
     print-decimal-requires
     slice-aggregate-write-all
     write-all-requires
