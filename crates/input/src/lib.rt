@@ -1,8 +1,8 @@
 // The reader that holds its text and its current token: thin, over the plain functions on the text and a token.
-use tokens::Arrived;
-use tokens::Current;
 use reader::whole;
 use reader::whole::Whole;
+use tokens::Arrived;
+use tokens::Current;
 ghost use Prim.Native.Nat.{_≤_};
 ghost use mathlib.Core.Path.{_≡_};
 ghost use lib.ListN.{length};
