@@ -65,7 +65,7 @@ pub fn put_decimal(v: u64, out: &mut [u8]) -> usize
 }
 
 // A few bytes, and a number behind them.
-pub fn put_numbered(label: &[u8], v: u64, out: &mut [u8]) -> usize
+fn put_numbered(label: &[u8], v: u64, out: &mut [u8]) -> usize
     requires { ⌜ length (now label) < 2 ^ 30 ⌝ }
     ensures { λ r. ⌜ Wrote (now (label .entry) ++ decimal v []) (now (out .entry)) (now (out .exit)) r ⌝ }
 {
