@@ -2,7 +2,7 @@
 
 use crate::least::least;
 use crate::library::{self, ANSWER};
-use crate::second::BYTES;
+use crate::second::{self, BYTES};
 use crate::{families, parse, records};
 use std::time::Duration;
 
@@ -16,7 +16,11 @@ struct Times {
     written: Result<u64, u64>,
 }
 
-fn times(text: &str, rounds: u32, calls: u32) -> Times {
+/// The calls of a round, and how many rounds there are.
+const SHORT: (u32, u32) = (20, 200);
+const LONG: (u32, u32) = (1, 12);
+
+fn times(text: &str, (calls, rounds): (u32, u32)) -> Times {
     let bytes = text.as_bytes();
     let (mut words, mut texts, mut output) = (vec![0; 7 * (text.len() + 4)], vec![0; 5 * text.len() + 5], vec![0; BYTES]);
     let stored = library::read(bytes, &mut words, &mut texts)[4] as usize;
@@ -64,11 +68,22 @@ pub fn measure(examples: &[&str]) {
     for path in examples {
         let text = std::fs::read_to_string(path).expect("a grammar");
         let name = path.rsplit('/').next().expect("a name");
-        row(name, text.len(), &times(&text, 200, 20), None);
+        row(name, text.len(), &times(&text, SHORT), None);
     }
     println!("\n| 64 KB of | {HEADS} 64 KB to 32 KB, read | with normal text |\n|{}", "---|".repeat(11));
-    for ((name, half), (_, whole)) in families::texts(32_767).iter().zip(&families::texts(BYTES)) {
-        let (first, second) = (times(half, 20, 1), times(whole, 20, 1));
+    let wholes = families::texts(BYTES);
+    for ((name, half), (_, whole)) in families::texts(32_767).iter().zip(&wholes) {
+        let (first, second) = (times(half, LONG), times(whole, LONG));
         row(name, whole.len(), &second, Some(&first));
     }
+    println!("\n| as much as has a normal text, of | {HEADS}\n|{}", "---|".repeat(9));
+    for (which, (name, _)) in wholes.iter().enumerate() {
+        let smaller = (1..=64).rev().map(|part| families::texts(BYTES * part / 64).swap_remove(which).1);
+        let text = smaller.into_iter().find(|text| has_normal_text(text)).expect("a text that is short enough");
+        row(name, text.len(), &times(&text, LONG), None);
+    }
+}
+
+fn has_normal_text(text: &str) -> bool {
+    second::read(text.as_bytes()).is_ok_and(|tree| second::normal_text(&tree).len() <= BYTES)
 }

@@ -100,7 +100,9 @@ pub fn libraries() -> Vec<(&'static str, Calls)> {
         })),
         ("a word past the answer", wrong!(text words texts output answer { set(answer, library::ANSWER, 0) })),
         ("a byte past the normal text", wrong!(text words texts output answer { if answer[0] == 0 { set(output, answer[4] as usize, b'~') } })),
-        ("a byte past the texts", wrong!(text words texts output answer { if answer[0] == 0 && texts.len() > text.len() { set(texts, text.len(), b'~') } })),
+        ("a byte past the texts", wrong!(text words texts output answer {
+            if answer[0] == 0 && texts.len() > text.len() { set(texts, text.len(), b'~') }
+        })),
         ("the last word that is lent", wrong!(text words texts output answer { if let Some(last) = words.last_mut() { *last = 0 } })),
         ("a word under a refusal", wrong!(text words texts output answer { if answer[0] == 16 { set(words, 40, 0) } })),
         ("a byte of the output under a refusal", wrong!(text words texts output answer { if answer[0] == 17 { set(output, 3, b'~') } })),
