@@ -1,12 +1,12 @@
 //! How long reading and writing take, beside the Rust's parsing alone.
 
-use crate::least::least;
+use crate::least::processor;
 use crate::library::{self, ANSWER};
 use crate::second::{self, BYTES};
 use crate::{families, parse, records};
 use std::time::Duration;
 
-/// The least times of one text, in microseconds, and what it gives.
+/// The least times of the processor for one text, in microseconds, and what it gives.
 struct Times {
     read: f64,
     normal: f64,
@@ -29,9 +29,9 @@ fn times(text: &str, (calls, rounds): (u32, u32)) -> Times {
     let mut least_times = [Duration::MAX; 3];
     for _ in 0..rounds {
         let round = [
-            least(1, calls, || library::read(bytes, &mut words, &mut texts)),
-            least(1, calls, || library::normal_text(bytes, &mut words, &mut texts, &mut output, &mut answer)),
-            least(1, calls, || parse::parse_grammar(std::str::from_utf8(bytes).expect("UTF-8"), None)),
+            processor(calls, || library::read(bytes, &mut words, &mut texts)),
+            processor(calls, || library::normal_text(bytes, &mut words, &mut texts, &mut output, &mut answer)),
+            processor(calls, || parse::parse_grammar(std::str::from_utf8(bytes).expect("UTF-8"), None)),
         ];
         least_times = std::array::from_fn(|which| least_times[which].min(round[which]));
     }
