@@ -3,12 +3,36 @@
 import subprocess
 from pathlib import Path
 
+import generate
+
 ROOT = Path(__file__).resolve().parent.parent
 TARGET = ROOT / "target" / "compare"
 
 
 def build(folder):
     subprocess.run([str(ROOT / "compare" / "build"), str(folder)], check=True)
+
+
+def linked(folder, name, crate, stand_in=False):
+    """Builds compare/NAME over rezel's files and the static library of a crate, or over the second program in its place."""
+    compare = ROOT / "compare"
+    laid = subprocess.run([compare / "lay", folder, name, *(compare / name).glob("*.rs")], check=True, capture_output=True, text=True)
+    program = TARGET / "bin" / name
+    command = ["rustc", "--edition", "2024", "-C", "opt-level=3", "-A", "dead_code", Path(laid.stdout.strip()) / "main.rs", "-o", program]
+    if stand_in:
+        command += ["--cfg", "stand_in"]
+    else:
+        subprocess.run(["rt", "staticlib", crate], cwd=ROOT, check=True, stdout=subprocess.DEVNULL)
+        command += ["-L", "target/staticlib", "-l", f"static={crate}"]
+    subprocess.run(command, cwd=ROOT, check=True)
+    return program
+
+
+def hand():
+    """A file with the hand-chosen texts, one a line."""
+    texts = TARGET / "hand.hex"
+    texts.write_text("".join(text.hex() + "\n" for text in generate.hand()))
+    return texts
 
 
 def lines(program, *arguments, given):

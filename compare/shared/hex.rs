@@ -18,6 +18,12 @@ pub fn from_hex(line: &str) -> Vec<u8> {
         .collect()
 }
 
+/// The texts of a file that has one a line.
+pub fn lines(file: &str) -> Vec<Vec<u8>> {
+    let lines = std::fs::read_to_string(file).expect("a list of texts");
+    lines.lines().map(from_hex).collect()
+}
+
 pub fn to_words(words: &[u32]) -> String {
     let words: Vec<String> = words.iter().map(u32::to_string).collect();
     words.join(",")

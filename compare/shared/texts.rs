@@ -304,6 +304,24 @@ fn long(random: &mut Random) -> Vec<u8> {
     text
 }
 
+/// A normal text with other blanks, comments and escapes, which mean the same.
+pub fn respelled(random: &mut Random, normal: &str) -> String {
+    const BLANKS: [&str; 10] = [" ", " ", "  ", "\n", "\t", "\r\n", "/*c*/", "//l\n", "\u{a0}", " /**/\u{feff}"];
+    let mut out = String::new();
+    let mut inside = false;
+    let mut rest = normal.chars();
+    while let Some(c) = rest.next() {
+        inside ^= c == '"';
+        match c {
+            ' ' | '\n' if !inside => out.push_str(random.pick(&BLANKS)),
+            '\\' if inside => out.extend([c, rest.next().expect("an escaped character")]),
+            _ if inside && c != '"' && random.one_in(3) => out.push_str(&format!("\\u{{{:x}}}", u32::from(c))),
+            _ => out.push(c),
+        }
+    }
+    out
+}
+
 /// Texts of all sorts, those of a list damaged among them.
 pub fn seeded(seed: u64, count: u64, hand: &[Vec<u8>], on: &mut impl FnMut(&[u8])) {
     let random = &mut Random::of(seed);

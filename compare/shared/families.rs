@@ -1,7 +1,4 @@
-//! Texts that are hard in one way each, of some size, and the times that they take.
-
-use crate::least::least;
-use crate::{library, parse, records};
+//! Texts that are hard in one way each, of some size.
 
 /// What stands before, what is repeated, and what stands after.
 const FAMILIES: [(&str, &str, &str, &str); 38] = [
@@ -83,29 +80,9 @@ pub fn texts(bytes: usize) -> Vec<(&'static str, String)> {
     texts
 }
 
-/// Our time and the Rust's, and how many records there are.
-fn times(text: &str) -> (f64, f64, usize) {
-    let tree = parse::parse_grammar(text, None).expect("an accepted text");
-    let stored = records::of_grammar(&tree);
-    let (mut words, mut bytes) = (vec![0; stored.words.len()], vec![0; stored.texts.len()]);
-    let slow = least(1, 1, || library::read(text.as_bytes(), &mut words, &mut bytes));
-    let rounds = if slow.as_millis() > 50 { 3 } else { 20 };
-    let ours = least(rounds, 1, || library::read(text.as_bytes(), &mut words, &mut bytes));
-    let theirs = least(rounds, 1, || {
-        let text = std::str::from_utf8(text.as_bytes()).expect("UTF-8");
-        parse::parse_grammar(text, None)
-    });
-    let milliseconds = |time: std::time::Duration| time.as_secs_f64() * 1e3;
-    (milliseconds(ours), milliseconds(theirs), stored.words.len() / records::WIDTH)
-}
-
-/// A table of the times at two sizes.
-pub fn measure() {
-    println!("| 64 KB of | records | ours, ms | Rust's, ms | ratio | our 64 KB to 32 KB |");
-    println!("|---|---|---|---|---|---|");
-    for ((name, half), (_, whole)) in texts(32_767).iter().zip(&texts(65_535)) {
-        let (first, _, _) = times(half);
-        let (ours, theirs, records) = times(whole);
-        println!("| {name} | {records} | {ours:.2} | {theirs:.2} | {:.2} | {:.2} |", ours / theirs, ours / first);
+/// All families at four sizes, the limit of bytes among them.
+pub fn of_four_sizes(on: &mut impl FnMut(&[u8])) {
+    for bytes in [400, 4_000, 32_767, 65_535] {
+        texts(bytes).iter().for_each(|(_, text)| on(text.as_bytes()));
     }
 }
