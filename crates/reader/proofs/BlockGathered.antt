@@ -45,7 +45,7 @@ front-none (x ∷ e) r h = absurd (omega arith)
 pub rest-none : (e r : List ℕ) → length (e ++ r) ≡ 0 → length r ≡ 0
 rest-none e r h = let a = length-append e r in omega arith
 
-both-none : (v w : List ℕ) → length v ≡ 0 → length w ≡ 0 → v ≡ w
+pub both-none : (v w : List ℕ) → length v ≡ 0 → length w ≡ 0 → v ≡ w
 both-none [] [] h k = refl
 both-none [] (x ∷ w) h k = absurd (omega arith)
 both-none (x ∷ v) w h k = absurd (omega arith)

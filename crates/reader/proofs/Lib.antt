@@ -1,3 +1,4 @@
+pub mod Filling
 pub mod RoomyLaws
 pub mod TopLaws
 pub mod MemberLaws
@@ -8,9 +9,13 @@ pub mod DirectiveLaws
 pub mod Membering
 pub mod Grouping
 pub mod BlockGathered
-pub mod WholeLaws
-pub mod Passing
 pub mod GrammarGroups
+pub mod WholeLaws
+pub mod PlaceLaws
+pub mod TopPlaces
+pub mod Placing
+pub mod Passing
+pub mod GroupPlaces
+pub mod WholeFilled
 pub mod ParseLaws
-pub mod TopGroups
 pub mod StoreLaws

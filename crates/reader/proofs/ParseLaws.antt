@@ -1,12 +1,12 @@
 -- The whole of a grammar: how large its tree is, what its definition gives, and what is known once all is measured.
 -- Assumes nothing.
-use Prim.Native.Nat.{ℕ, _+_, _*_, _≤_, _<_, _^_}
+use Prim.Native.Nat.{ℕ, zero, suc, _+_, _*_, _≤_, _<_, _^_}
 use native.Mathlib.Omega.{arith}
 use mathlib.Core.Path.{_≡_, refl, ap, sym, _∙_}
 use mathlib.Core.Bool.{Bool, true, false, not}
 use mathlib.Core.List.{List, [], _∷_, _++_}
 use borrow.Author.Tests.{not-true, not-false}
-use lib.ListN.{length, length-append}
+use lib.ListN.{length, length-append, getD}
 use Rattle.basics.specs.Basics.{isEmpty, picked}
 use Rattle.error.specs.Causes.{noTop, recordsFull, textsFull}
 use Rattle.error.specs.declared.Cause.{Cause}
@@ -31,23 +31,18 @@ use Rattle.tokens.proofs.Stream.{start-of}
 use Rattle.parser.proofs.Onward.{placed-in}
 use Rattle.parser.proofs.Ready.{arrived-at, arrived-not, flat-length}
 use Rattle.reader.specs.Groups.{allOf, groupsOf}
-use Rattle.reader.specs.Blocks.{Roomy}
 use Rattle.reader.specs.Directives.{memberKind, memberBranches}
-use Rattle.reader.specs.Whole.{members, lastNames, declaredKinds, storedKinds, HasNames, Names, NamesTo, Passes, PassesTo, Known, First, Stopped, by-text, by-words, by-bytes, Reads}
+use Rattle.reader.specs.Whole.{members, lastNames, declaredKinds, storedKinds, HasNames, Names, NamesTo, Begins, Passes, PassesTo, Blank, Sizes, Known, First, Stopped, by-text, by-words, by-bytes, Reads}
 use Rattle.reader.specs.declared.whole.Noted.{Noted}
 use Rattle.reader.specs.declared.whole.Passed.{Passed}
 use Rattle.reader.specs.declared.whole.Passed.the-variants as P
 use Rattle.reader.specs.declared.whole.Whole.{Whole}
+use Rattle.reader.proofs.BlockGathered.{front-none}
 use Rattle.reader.proofs.GroupSizes.{Weight, nodes-of, bytes-of, groups-next, groups-weigh}
+use Rattle.reader.proofs.Filling.{words-length}
 use Rattle.reader.proofs.GrammarGroups.{top-one, grammarChildren, grammar-nodes}
 
 -- ------------------------------------------------------------------ sizes
-
--- the words of records
-pub words-length : (at : ℕ) (xs : List Node) → length (words (recordsFrom at xs)) ≡ 7 * length xs
-unfolding words recordsFrom
-words-length at [] = refl
-words-length at (x ∷ xs) = let l = words-length (at + length (x .row .text)) xs in omega arith
 
 -- the bytes of texts, one after another
 texts-length : (xs ys : List Node) → length (textsOf (xs ++ ys)) ≡ length (textsOf xs) + length (textsOf ys)
@@ -140,8 +135,8 @@ module _ (ts : Tokens ℕ) where
 
 -- ------------------------------------------------------------------ answers by their variants
 
-module _ (want : ℕ) (s : List ℕ) (t : Current) (a : Lent) (ws ts : List ℕ) (r : Passed) (h : PassesTo want s t a ws ts r) where
-  pub passed-at : {u : Current} {n x count : ℕ} {noted : Noted} → r ≡ P.Done u n x count noted → Passes want s t a u (lent n ws x ts) count noted
+module _ (s : List ℕ) (t : Current) (ps qs ps₁ qs₁ ws ts vs us : List ℕ) (r : Passed) (h : PassesTo s t ps qs ps₁ qs₁ ws ts vs us r) where
+  pub passed-at : {u : Current} {n x count : ℕ} {noted : Noted} → r ≡ P.Done u n x count noted → Passes s t ps qs ps₁ qs₁ ws ts vs us u n x count noted
   passed-at q = rw q at h
 
   pub passed-not : {c : Cause} {p : ℕ} → r ≡ P.Refused c p → members (stream s t) ≡ refused (causeNumber c) p
@@ -160,8 +155,16 @@ module _ (s : List ℕ) (r : Arrived) (h : (arrive (tokensAt s 0) ≡ arrival s 
 
 module _ {s : List ℕ} {t : Current} (first : First s t) where
   -- all room is left
-  pub first-roomy : length s ≤ 0x10000 → Roomy s t 0 0
-  first-roomy z = record { lies = first .lies; small = z; room = omega arith; space = omega arith }
+  pub first-begins : length s ≤ 0x10000 → {ps qs : List ℕ} → Blank ps → Blank qs → Begins 0x1000000 s t ps qs
+  first-begins z a b =
+      record {
+        lies = first .lies;
+        small = z;
+        words-all = a .all;
+        bytes-all = b .all;
+        words-few = λ g. let k = a .none g in omega arith;
+        bytes-few = λ g. let k = b .none g in omega arith;
+      }
 
   -- a declaration behind it is refused
   pub stopped-members : {c p : ℕ} (ws ts : List ℕ) → members (stream s t) ≡ refused c p → Stopped s ws ts c p
@@ -169,7 +172,24 @@ module _ {s : List ℕ} {t : Current} (first : First s t) where
 
   -- ------------------------------------------------------------------ all is measured
 
-  module _ {last : Current} {n x count : ℕ} {noted : Noted} {es fs gs hs : List ℕ} (g : Passes 0 s t (lent 0 es 0 fs) last (lent n gs x hs) count noted) where
+  module _ {last : Current} {n x count : ℕ} {noted : Noted} {ns xs ns₁ xs₁ es fs gs hs : List ℕ} (g : Passes s t ns xs ns₁ xs₁ es fs gs hs last n x count noted) where
+    -- nothing was lent
+    pub no-words-yet : length es ≡ 0 → (ws : List ℕ) → gs ++ ws ≡ ws
+    no-words-yet e ws = front-none gs ws (g .fills .records .same ∙ e)
+
+    pub no-texts-yet : length fs ≡ 0 → (ts : List ℕ) → hs ++ ts ≡ ts
+    no-texts-yet e ts = front-none hs ts (g .fills .texts .same ∙ e)
+
+    -- the sizes of the groups
+    measured-sizes : Blank ns → Blank xs → Sizes (g .found) ns₁ xs₁
+    measured-sizes a b =
+        record {
+          words-all = g .fills .same-places ∙ a .all;
+          bytes-all = g .fills .same-bytes ∙ b .all;
+          words-are = λ i l. let k = g .fills .words-on i l in let z = a .none i in omega arith;
+          bytes-are = λ i l. let k = g .fills .bytes-on i l in let z = b .none i in omega arith;
+        }
+
     -- there is no top rule
     pub stopped-top : {p : ℕ} (ws ts : List ℕ) → not (noted .top) ≡ true → p ≡ startIn last → Stopped s ws ts noTop p
     stopped-top ws ts y e = by-text (grammar-topless (tokensAt s 0) (first .arrives) (g .gives) (g .noted .top ∙ not-true (noted .top) y) ∙ rw (start-of s last, e))
@@ -255,8 +275,8 @@ module _ {s : List ℕ} {t : Current} (first : First s t) where
               (by-bytes (record { tree = grammarAt; rest = stream s last; gives = whole-read has-top; fits = omega arith; over = omega arith; cause-is = refl; place-is = refl }), v, u)
 
         -- there is room for all
-        pub all-known : m + 7 ≤ length ws → y ≤ length ts → Known s t last noted (count + named) ws ts
-        all-known i j =
+        pub all-known : Blank ns → Blank xs → m + 7 ≤ length ws → y ≤ length ts → Known s t last noted (count + named) ns₁ xs₁ ws ts
+        all-known none-words none-bytes i j =
             let e = measured-words in
             let f = measured-bytes in
             let h = g .counted in
@@ -271,6 +291,7 @@ module _ {s : List ℕ} {t : Current} (first : First s t) where
               noted = g .noted;
               top = not-false (noted .top) has-top;
               counted = omega arith;
+              sizes = measured-sizes none-words none-bytes;
               few = omega arith;
               words-fit = omega arith;
               bytes-fit = omega arith;
@@ -279,3 +300,17 @@ module _ {s : List ℕ} {t : Current} (first : First s t) where
 -- in words and bytes that are the same
 pub reads-same : (s ws ts vs us qs bs : List ℕ) (r : Whole) → vs ≡ ws → us ≡ ts → Reads s vs us qs bs r → Reads s ws ts qs bs r
 reads-same s ws ts vs us qs bs r e f h = rw (e, f) at h
+
+-- ------------------------------------------------------------------ no sizes yet
+
+abbrev Zeros : List ℕ → Type 0
+Zeros [] = Unit {0}
+Zeros (x ∷ xs) = (x ≡ 0) × Zeros xs
+
+zeros-at : (xs : List ℕ) → Zeros xs → (g : ℕ) → getD xs g 0 ≡ 0
+zeros-at [] h g = refl
+zeros-at (x ∷ xs) h zero = h .0
+zeros-at (x ∷ xs) h (suc g) = zeros-at xs (h .1) g
+
+pub blank : Blank (0 ∷ 0 ∷ 0 ∷ 0 ∷ 0 ∷ 0 ∷ 0 ∷ 0 ∷ 0 ∷ 0 ∷ 0 ∷ 0 ∷ 0 ∷ [])
+blank = record { all = refl; none = zeros-at (0 ∷ 0 ∷ 0 ∷ 0 ∷ 0 ∷ 0 ∷ 0 ∷ 0 ∷ 0 ∷ 0 ∷ 0 ∷ 0 ∷ 0 ∷ []) (refl, (refl, (refl, (refl, (refl, (refl, (refl, (refl, (refl, (refl, (refl, (refl, (refl, tt))))))))))))) }

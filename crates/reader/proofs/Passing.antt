@@ -1,37 +1,41 @@
--- A pass over all declarations: those whose kind is wanted are stored as they are read.
+-- A pass over all declarations: each is stored, as it is read, where its group goes on.
 -- Assumes nothing.
 use Prim.Native.Nat.{ℕ, _+_, _≤_, _<_}
 use native.Mathlib.Omega.{arith}
-use mathlib.Core.Path.{_≡_, refl, ap, sym, _∙_}
+use mathlib.Core.Path.{_≡_, refl, ap, _∙_}
 use mathlib.Core.Bool.{Bool, true, false, _||_}
 use mathlib.Core.List.{List, [], _∷_, _++_}
 use mathlib.Core.Option.{Option, none, some}
 use lib.Dec.{eqb}
-use lib.ListN.{length, length-append}
+use native.Mathlib.Decide.{decLt}
+use Rattle.characters.specs.Promise.{written}
+use Rattle.characters.proofs.Written.{length-written}
+use lib.ListN.{length, length-append, getD, List·getD-eq-default}
 use Rattle.basics.specs.Basics.{if_then_else_}
 use Rattle.lexer.specs.Tokens.{Tokens}
 use Rattle.lexer.specs.declared.Kind.{Kind}
-use Rattle.tree.specs.Records.{Branch, nodes}
+use Rattle.tree.specs.Records.{Branch, Node, nodes, textsOf}
 use Rattle.notation.specs.Parser.{read, refused, Parser, andThen, _>>=_, pure, choose, kind, kindOf, isEnd, separate, untilStep, nothing}
 use Rattle.notation.specs.Members.{Member}
 use Rattle.notation.specs.Declarations.{parseDeclaration}
 use Rattle.tokens.specs.Promise.{stream, LiesIn}
 use Rattle.parser.specs.Shapes.{IsToken}
-use Rattle.parser.specs.Storing.{Lent, lent, flat}
-use Rattle.parser.specs.Steps.{placed, Onward}
+use Rattle.parser.specs.Storing.{lent, Stores, flat}
+use Rattle.parser.specs.Steps.{placed}
 use Rattle.tokens.specs.declared.Current.{Current}
 use Rattle.tokens.specs.declared.Current.the-variants.{Token, End}
 use Rattle.notation.proofs.Turns.{loop-end}
 use Rattle.parser.proofs.Onward.{placed-in}
 use Rattle.parser.proofs.Lists.{Listing, listing-start, listing-turn, listing-more, listing-refused}
-use Rattle.parser.proofs.Ready.{flat-length}
 use Rattle.reader.specs.Groups.{chosen, allOf}
-use Rattle.reader.specs.Blocks.{Roomy}
+use Rattle.reader.specs.Places.{groupAt, Fills}
 use Rattle.reader.specs.Directives.{memberKind, memberBranches, SeenIs}
-use Rattle.reader.specs.Whole.{members, Picks, NotedIs, recordsOf, noteOf, Passes}
+use Rattle.reader.specs.Whole.{members, storedKinds, memberPlace, groupCount, Begins, Places, NotedIs, recordsOf, noteOf, Passes}
 use Rattle.reader.specs.declared.whole.Noted.{Noted}
-use Rattle.reader.proofs.RoomyLaws.{roomy-on}
-use Rattle.reader.proofs.GroupSizes.{all-snoc, all-nodes}
+use Rattle.reader.proofs.BlockGathered.{both-none}
+use Rattle.reader.proofs.Filling.{fills-none, fills-more}
+use Rattle.reader.proofs.PlaceLaws.{place-within}
+use Rattle.reader.proofs.GroupSizes.{Weight, nodes-of, bytes-of, all-snoc, all-nodes}
 use Rattle.reader.proofs.WholeLaws.{noted-start, noted-more, counted-more}
 
 records-few : (k : ℕ) → recordsOf k ≤ 1
@@ -40,6 +44,20 @@ records-few k = go (eqb k 1 || eqb k 24)
     go : (b : Bool) → (if b then 0 else 1) ≤ 1
     go true = omega arith
     go false = omega arith
+
+-- a group weighs no more than all
+group-weighs : {M : Type 0} (place kind : M → ℕ) (branches : M → List Branch) (w : Weight) (g : ℕ) (ms : List M) → w .of (groupAt place branches g ms) ≤ w .of (allOf kind branches 0 ms)
+unfolding groupAt allOf
+group-weighs place kind branches w g [] = omega arith
+group-weighs place kind branches w g (m ∷ ms) =
+    let a = group-weighs place kind branches w g ms in
+    let b = w .more (branches m) (allOf kind branches 0 ms) in
+    go (eqb (place m) g) (w .none) a b
+  where
+    go : (b : Bool) → w .of [] ≡ 0 → w .of (groupAt place branches g ms) ≤ w .of (allOf kind branches 0 ms) → w .of (branches m ++ allOf kind branches 0 ms) ≡ w .of (branches m) + w .of (allOf kind branches 0 ms)
+        → w .of ((if b then branches m else []) ++ groupAt place branches g ms) ≤ w .of (branches m ++ allOf kind branches 0 ms)
+    go true n a b = let c = w .more (branches m) (groupAt place branches g ms) in omega arith
+    go false n a b = omega arith
 
 abbrev step : List (Member ℕ) → Parser ℕ (Option (Member ℕ))
 step = untilStep (kind >>= λ k. pure (isEnd k)) nothing parseDeclaration
@@ -66,23 +84,38 @@ is-token q = rw q tt
 
 -- ------------------------------------------------------------------ the pass
 
--- the declarations so far are read and noted, and those that are wanted are stored
-pub record Passing (want : ℕ) (s : List ℕ) (t₀ : Current) (a : Lent) (t : Current) (c : Lent) (count : ℕ) (n : Noted) : Type 0 where
+-- the declarations so far are read, noted and stored
+pub record Passing (s : List ℕ) (t₀ : Current) (ps qs ps₁ qs₁ ws ts vs us : List ℕ) (t : Current) (n x count : ℕ) (noted : Noted) : Type 0 where
   pub turns : ℕ
-  pub listing : Listing step (λ m. flat nodes (chosen memberKind memberBranches want m)) s t₀ 0 a t c turns
+  pub listing : Listing step (λ m. flat nodes (chosen memberKind memberBranches 0 m)) s t₀ 0 (lent 0 [] 0 []) t (lent n [] x []) turns
   pub counted : length (allOf memberKind memberBranches 0 (listing .items)) ≡ count
-  pub noted : NotedIs s n (listing .items)
+  pub is-noted : NotedIs s noted (listing .items)
   pub few : count + placed s t₀ ≤ placed s t
+  pub fills : Fills memberPlace memberBranches groupCount (listing .items) ps qs ps₁ qs₁ ws ts vs us
 
-pub passing-start : (want : ℕ) (s : List ℕ) (t : Current) (a : Lent) → LiesIn s 0 t
-    → Passing want s t a t a 0 (record { seen = record { tokens = false; context = false; precedence = false; skip = false }; top = false; delim = false; listed = false; last = t })
+pub passing-start : (s : List ℕ) (t : Current) (ps qs ws ts : List ℕ) → LiesIn s 0 t
+    → Passing s t ps qs ps qs ws ts ws ts t 0 0 0 (record { seen = record { tokens = false; context = false; precedence = false; skip = false }; top = false; delim = false; listed = false; last = t })
 unfolding listing-start allOf
-passing-start want s t a l =
-    record { turns = 0; listing = listing-start _ _ s t 0 a l; counted = refl; noted = noted-start s t; few = omega arith }
+passing-start s t ps qs ws ts l =
+    record { turns = 0; listing = listing-start _ _ s t 0 (lent 0 [] 0 []) l; counted = refl; is-noted = noted-start s t; few = omega arith; fills = fills-none memberPlace memberBranches groupCount ps qs ws ts }
 
-module _ {want : ℕ} {s : List ℕ} {t₀ : Current} {a : Lent} {t : Current} {n x count : ℕ} {ws ts : List ℕ} {noted : Noted}
-    (p : Passing want s t₀ a t (lent n ws x ts) count noted) where
-  pub passing-done : {q : ℕ} → t ≡ End q → Passes want s t₀ a t (lent n ws x ts) count noted
+-- what is stored takes as much where nothing is lent, behind whatever is taken
+stores-again : {xs : List Node} {m y : ℕ} (n x : ℕ) → Stores xs (lent 0 [] 0 []) (lent m [] y []) → Stores xs (lent n [] x []) (lent (n + m) [] (x + y) [])
+stores-again n x st =
+    let a = st .words-end in
+    let b = st .texts-end in
+    record {
+      words-end = omega arith;
+      texts-end = omega arith;
+      same-words = refl;
+      same-texts = refl;
+      records = λ h. both-none [] (written [] n _) refl (length-written [] n _);
+      bytes = λ h. both-none [] (written [] x _) refl (length-written [] x _);
+    }
+
+module _ {s : List ℕ} {t₀ : Current} {ps qs ps₁ qs₁ ws ts vs us : List ℕ} {t : Current} {n x count : ℕ} {noted : Noted}
+    (p : Passing s t₀ ps qs ps₁ qs₁ ws ts vs us t n x count noted) where
+  pub passing-done : {q : ℕ} → t ≡ End q → Passes s t₀ ps qs ps₁ qs₁ ws ts vs us t n x count noted
   passing-done e =
       let l = p .listing in
       record {
@@ -90,43 +123,88 @@ module _ {want : ℕ} {s : List ℕ} {t₀ : Current} {a : Lent} {t : Current} {
         gives = loop-end _ (l .goes) (end-step s (l .items) t e);
         onward = l .onward;
         counted = p .counted;
-        lays = rw (all-nodes memberKind memberBranches want (l .items)) (l .lays);
-        noted = p .noted;
+        lays = rw (all-nodes memberKind memberBranches 0 (l .items)) (l .lays);
+        noted = p .is-noted;
+        fills = p .fills;
       }
 
-  pub passing-roomy : {i j : ℕ} {us vs : List ℕ} → a ≡ lent i us j vs → Roomy s t₀ i j → Roomy s t n x
-  passing-roomy {i} {j} {us} {vs} e r =
-      let l : Listing step (λ m. flat nodes (chosen memberKind memberBranches want m)) s t₀ 0 (lent i us j vs) t (lent n ws x ts) (p .turns) = rw e at (p .listing) in
-      roomy-on r (l .onward) (l .lays)
+  -- the places move on, and stay small
+  pub passing-begins : Begins 0x1000000 s t₀ ps qs → Begins 0x10000000 s t ps₁ qs₁
+  passing-begins b =
+      let l = p .listing in
+      record {
+        lies = l .onward .lies;
+        small = b .small;
+        words-all = p .fills .same-places ∙ b .words-all;
+        bytes-all = p .fills .same-bytes ∙ b .bytes-all;
+        words-few = λ g. words-few g (decLt g groupCount) (b .small) (b .words-few g) (b .words-all);
+        bytes-few = λ g. bytes-few g (decLt g groupCount) (b .small) (b .bytes-few g) (b .bytes-all);
+      }
+    where
+      words-few : (g : ℕ) → Dec (g < groupCount) → length s ≤ 0x10000 → getD ps g 0 ≤ 0x1000000 → length ps ≡ groupCount → getD ps₁ g 0 ≤ 0x10000000
+      words-few g (yes l) z a e =
+          let on = p .fills .words-on g l in
+          let w = group-weighs memberPlace memberKind memberBranches nodes-of g (p .listing .items) in
+          let c = ap length (all-nodes memberKind memberBranches 0 (p .listing .items)) in
+          let d = p .listing .lays .bound in
+          let f = placed-in s t (p .listing .onward .lies) in
+          omega arith
+      words-few g (no l) z a e =
+          let k = p .fills .same-places in
+          let h : getD ps₁ g 0 ≡ 0 = List·getD-eq-default ps₁ 0 {n = g} (omega arith) in
+          omega arith
 
-  pub passing-small : length s ≤ 0x10000 → count ≤ 0x10000
+      bytes-few : (g : ℕ) → Dec (g < groupCount) → length s ≤ 0x10000 → getD qs g 0 ≤ 0x1000000 → length qs ≡ groupCount → getD qs₁ g 0 ≤ 0x10000000
+      bytes-few g (yes l) z a e =
+          let on = p .fills .bytes-on g l in
+          let w = group-weighs memberPlace memberKind memberBranches bytes-of g (p .listing .items) in
+          let c = ap (λ (l : List Node). length (textsOf l)) (all-nodes memberKind memberBranches 0 (p .listing .items)) in
+          let d = p .listing .lays .space in
+          let f = placed-in s t (p .listing .onward .lies) in
+          omega arith
+      bytes-few g (no l) z a e =
+          let k = p .fills .same-bytes in
+          let h : getD qs₁ g 0 ≡ 0 = List·getD-eq-default qs₁ 0 {n = g} (omega arith) in
+          omega arith
+
+  pub passing-small : length s ≤ 0x10000 → (count ≤ 0x10000) × (n ≤ 0x1000000) × (x ≤ 0x1000000)
   passing-small h =
       let f = p .few in
-      let d = placed-in s t (p .listing .onward .lies) in
-      omega arith
+      let l = p .listing in
+      let d = placed-in s t (l .onward .lies) in
+      let a = l .lays .bound in
+      let b = l .lays .space in
+      let c = l .lays .stores .words-end in
+      let e = l .lays .stores .texts-end in
+      (omega arith, omega arith, omega arith)
 
   module _ (i : IsToken t) where
     pub passing-refused : {c q : ℕ} → ((before : List (Member ℕ)) → SeenIs (noted .seen) before → parseDeclaration before (stream s t) ≡ refused c q) → members (stream s t₀) ≡ refused c q
     unfolding andThen
     passing-refused h =
         let l = p .listing in
-        listing-refused l (open-step s (l .items) t i ∙ rw (h (l .items) (p .noted .seen)))
+        listing-refused l (open-step s (l .items) t i ∙ rw (h (l .items) (p .is-noted .seen)))
 
-    module _ {u : Current} {m y k : ℕ} {vs us : List ℕ} {top : Bool} (j : Picks want (noted .seen) s t (lent n ws x ts) u (lent m vs y us) k top) where
-      pub passing-more : {more : ℕ} {next : Noted} → more ≡ recordsOf k → next ≡ noteOf noted t k top → Passing want s t₀ a u (lent m vs y us) (count + more) next
+    module _ {ps₂ qs₂ vs₂ us₂ : List ℕ} {u : Current} {m y k : ℕ} {top : Bool} (b : Begins 0x1000000 s t₀ ps qs) (j : Places (noted .seen) s t ps₁ qs₁ ps₂ qs₂ vs us vs₂ us₂ u m y k top) where
+      pub passing-more : {more : ℕ} {next : Noted} → more ≡ recordsOf k → next ≡ noteOf noted t k top → Passing s t₀ ps qs ps₂ qs₂ ws ts vs₂ us₂ u (n + m) (x + y) (count + more) next
       unfolding andThen pure listing-turn listing-more
       passing-more {more} {next} e f =
           let l = p .listing in
-          let o = j .onward .ahead in
+          let d = j .declares in
+          let o = d .onward .ahead in
           let g = p .few in
-          let v = j .value in
-          let c : length (memberBranches v) ≡ more = counted-more v ∙ rw (j .kinds, ← e) in
+          let v = d .value in
+          let c : length (memberBranches v) ≡ more = counted-more v ∙ rw (d .kinds, ← e) in
           let one : more ≤ 1 = rw e (records-few k) in
+          let z = place-within storedKinds (memberKind v) in
+          let a₁ = b .words-all in
+          let a₂ = b .bytes-all in
           record {
             turns = p .turns + 1;
-            listing = listing-turn l {v = v} (open-step s (l .items) t i ∙ rw (j .gives (l .items) (p .noted .seen))) (j .onward) (j .lays);
+            listing = listing-turn l {v = v} (open-step s (l .items) t i ∙ rw (d .gives (l .items) (p .is-noted .seen))) (d .onward) (record { stores = stores-again n x (d .lays .stores); bound = d .lays .bound; space = d .lays .space });
             counted =
                 ap length (all-snoc memberKind memberBranches 0 (l .items) v) ∙ length-append (allOf memberKind memberBranches 0 (l .items)) (memberBranches v) ∙ rw (p .counted, c);
-            noted = rw f (noted-more (p .noted) (l .onward .lies) i j);
+            is-noted = rw f (noted-more (p .is-noted) (l .onward .lies) i d);
             few = omega arith;
+            fills = fills-more memberPlace memberBranches (p .fills) {m = v} (omega arith) (omega arith) (omega arith) (j .stores) (j .words-on) (j .bytes-on);
           }

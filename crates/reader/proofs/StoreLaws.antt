@@ -1,59 +1,48 @@
--- All that was measured is stored: the groups, the dialects, the external props and the grammar's record are the grammar's words and texts.
+-- All that was measured is stored: the dialects, the groups and the grammar's record are the grammar's words and texts.
 -- Assumes nothing.
 use Prim.Native.Nat.{ℕ, _+_, _*_, _≤_, _<_, _^_}
 use native.Mathlib.Omega.{arith}
-use mathlib.Core.Path.{_≡_, refl, ap, sym, _∙_}
-use mathlib.Core.Bool.{Bool, true, false, not}
-use mathlib.Core.List.{List, [], _∷_, _++_, append-nil}
-use lib.ListN.{length, length-append, drop}
-use Rattle.basics.specs.Basics.{isEmpty, picked}
-use Rattle.lexer.specs.Tokens.{Tokens}
-use Rattle.lexer.specs.Promise.{tokensAt}
+use mathlib.Core.Path.{_≡_, ap, sym, _∙_}
+use mathlib.Core.List.{List, [], _∷_, _++_}
+use lib.ListN.{length, getD, set}
 use Rattle.characters.specs.Promise.{written}
 use Rattle.characters.proofs.Written.{written-in}
-use Rattle.tree.specs.Records.{Branch, Node, nodes, textsOf, words, recordsFrom}
+use Rattle.lexer.specs.Tokens.{Tokens}
+use Rattle.lexer.specs.Promise.{tokensAt}
+use Rattle.tree.specs.Records.{Branch, Node, nodes, width, textsOf, words, recordsFrom}
 use Rattle.tree.specs.Stored.{nameBranch, flag, grammarBranch, grammarWords, grammarTexts}
-use Rattle.error.specs.declared.Cause.{Cause}
-use Rattle.error.specs.Promise.{causeNumber}
 use Rattle.tree.specs.Syntax.{Identifier}
+use Rattle.error.specs.declared.Cause.{Cause}
 use Rattle.notation.specs.Parser.{Answer, read, refused}
-use Rattle.notation.specs.Members.{Member, detects}
+use Rattle.notation.specs.Members.{Member}
 use Rattle.notation.specs.Declarations.{grammarOf}
-use Rattle.tokens.specs.Promise.{stream, startIn, LiesIn}
 use Rattle.parser.specs.Storing.{Lent, lent, Stores, StoresPlain, node, flat, nodesOf}
 use Rattle.tokens.specs.declared.Current.{Current}
 use Rattle.parser.specs.declared.props.Listed.{Listed}
 use Rattle.parser.specs.declared.props.Listed.the-variants.{Done, Refused}
 use Rattle.parser.proofs.Onward.{placed-in, start-small}
 use Rattle.parser.proofs.Ready.{flat-length}
-use Rattle.parser.proofs.Stored.{stores-then}
+use Rattle.tokens.specs.Promise.{stream, startIn, LiesIn}
 use Rattle.tokens.proofs.Stream.{start-of}
-use Rattle.reader.specs.Groups.{allOf, groupsOf}
-use Rattle.reader.specs.Blocks.{Roomy}
+use Rattle.reader.specs.Groups.{allOf}
+use Rattle.reader.specs.Places.{sum, linedUp, Fills}
 use Rattle.reader.specs.Directives.{memberKind, memberBranches}
-use Rattle.reader.specs.Whole.{members, lastNames, declaredKinds, HasNames, Names, NamesTo, NamedIs, Passes, GroupsTo, Known, Read, onto}
+use Rattle.reader.specs.Whole.{lastNames, storedKinds, memberPlace, HasNames, Names, NamesTo, NamedIs, Begins, Passes, Known, Read, onto}
 use Rattle.reader.specs.declared.whole.Noted.{Noted}
-use Rattle.reader.proofs.GroupSizes.{number, nodes-of, bytes-of}
+use Rattle.reader.proofs.GroupSizes.{number, nodes-of, bytes-of, groups-weigh}
 use Rattle.reader.proofs.Grouping.{together}
-use Rattle.reader.proofs.GrammarGroups.{grammarChildren, grammar-nodes}
-use Rattle.reader.proofs.ParseLaws.{words-length, words-of, texts-of, top-weighs, grammar-read}
+use Rattle.reader.proofs.GrammarGroups.{top-one, grammarChildren, grammar-nodes}
+use Rattle.reader.proofs.TopPlaces.{stored-distinct}
+use Rattle.reader.proofs.Filling.{words-length, put-words, put-texts}
+use Rattle.reader.proofs.GroupPlaces.{in-words, in-bytes, group-is}
+use Rattle.reader.proofs.WholeFilled.{stored-positive, firstOf, groupOf, sum-is, lined-is, places-all, place-first, place-eleven, place-behind, places-few, all-written}
+use Rattle.reader.proofs.ParseLaws.{words-of, texts-of, top-weighs, grammar-words, grammar-bytes, grammar-read}
 
 -- written from the first on
 at-front : (bs out : List ℕ) → length bs ≤ length out → written out 0 bs ≡ onto bs out
 at-front bs out h = let e : 0 + length bs ≡ length bs = omega arith in written-in out 0 bs (omega arith) ∙ rw e
 
--- the nodes of a grammar fill the front of what was lent
-module _ {xs : List Node} {j w : ℕ} {ws ts vs us : List ℕ} (st : Stores xs (lent 0 ws 0 ts) (lent j vs w us)) where
-  front-words : j ≤ length ws → vs ≡ onto (words (recordsFrom 0 xs)) ws
-  front-words h =
-      let l = words-length 0 xs in
-      let e = st .words-end in
-      st .records h ∙ at-front (words (recordsFrom 0 xs)) ws (omega arith)
-
-  front-texts : w ≤ length ts → us ≡ onto (textsOf xs) ts
-  front-texts h = let e = st .texts-end in st .bytes h ∙ at-front (textsOf xs) ts (omega arith)
-
-module _ {s : List ℕ} {t last : Current} {noted : Noted} {count : ℕ} {ws ts : List ℕ} (z : length s ≤ 0x10000) (l : LiesIn s 0 t) (known : Known s t last noted count ws ts) where
+module _ {s : List ℕ} {t last : Current} {noted : Noted} {count : ℕ} {ps qs ws ts : List ℕ} (z : length s ≤ 0x10000) (l : LiesIn s 0 t) (known : Known s t last noted count ps qs ws ts) where
   abbrev ms : List (Member ℕ)
   ms = known .surveyed .members
 
@@ -67,82 +56,176 @@ module _ {s : List ℕ} {t last : Current} {noted : Noted} {count : ℕ} {ws ts 
       let c = known .surveyed .space in
       (omega arith, omega arith)
 
-  module _ {m y : ℕ} {vs us : List ℕ} (st : Stores (flat nodes (groupsOf memberKind memberBranches declaredKinds ms)) (lent 0 ws 0 ts) (lent m vs y us)) where
-    pub groups-taken : (m ≤ 0x100000) × (y ≤ 0x100000)
-    groups-taken =
+  -- the sizes of the groups, added up
+  words-sum : sum ps ≡ width * length (flat nodes (allOf memberKind memberBranches 0 ms))
+  words-sum =
+      let a = sum-is in-words ms ps (known .sizes .words-all) (known .sizes .words-are) in
+      let b = groups-weigh memberKind memberBranches nodes-of storedKinds top-one ms in
+      omega arith
+
+  bytes-sum : sum qs ≡ length (textsOf (flat nodes (allOf memberKind memberBranches 0 ms)))
+  bytes-sum = sum-is in-bytes ms qs (known .sizes .bytes-all) (known .sizes .bytes-are) ∙ groups-weigh memberKind memberBranches bytes-of storedKinds top-one ms
+
+  pub words-small : sum ps < 2 ^ 64
+  words-small = let a = words-sum in let b = known-bound .0 in omega arith
+
+  pub bytes-small : sum qs < 2 ^ 64
+  bytes-small = let a = bytes-sum in let b = known-bound .1 in omega arith
+
+  module _ {ps₁ qs₁ : List ℕ} (e : ps₁ ≡ linedUp 0 ps) (f : qs₁ ≡ linedUp 0 qs) where
+    words-at : getD ps₁ 11 0 ≡ width * length (firstOf ms 11)
+    words-at = lined-is in-words ms ps (known .sizes .words-all) (known .sizes .words-are) e 11 (omega arith)
+
+    bytes-at : getD qs₁ 11 0 ≡ length (textsOf (firstOf ms 11))
+    bytes-at = lined-is in-bytes ms qs (known .sizes .bytes-all) (known .sizes .bytes-are) f 11 (omega arith)
+
+    pub names-at : (getD ps₁ 11 0 ≤ 0x100000) × (getD qs₁ 11 0 ≤ 0x100000)
+    names-at =
         let a = top-weighs ms nodes-of in
         let b = top-weighs ms bytes-of in
         let c = known-bound .0 in
         let d = known-bound .1 in
-        let e = st .words-end in
-        let f = st .texts-end in
+        let g = words-at in
+        let h = bytes-at in
         (omega arith, omega arith)
 
-    module _ {k x number-of : ℕ} {vs₂ us₂ : List ℕ} (names : Names (lastNames ms) s (lent m vs y us) (lent k vs₂ x us₂) number-of) where
-      pub names-roomy : Roomy s t k x
-      names-roomy =
-          let a = groups-taken .0 in
-          let b = groups-taken .1 in
+    module _ {k x named : ℕ} {vs us : List ℕ} (names : Names (lastNames ms) s (lent (getD ps₁ 11 0) ws (getD qs₁ 11 0) ts) (lent k vs x us) named) where
+      abbrev naming : List Node
+      naming = flat (nodesOf (nameBranch 24)) (lastNames ms)
+
+      last-small : (k ≤ 0x1000000) × (x ≤ 0x1000000)
+      last-small =
+          let a = names-at .0 in
+          let b = names-at .1 in
           let c = names .few in
           let d = names .short in
-          let e = names .stores .words-end in
-          let f = names .stores .texts-end in
-          record { lies = l; small = z; room = omega arith; space = omega arith }
+          let g = names .stores .words-end in
+          let h = names .stores .texts-end in
+          (omega arith, omega arith)
 
-      pub count-small : count < 2 ^ 32
+      pub pass-begins : Begins 0x1000000 s t (set ps₁ 11 k) (set qs₁ 11 x)
+      pass-begins =
+          let a = words-sum in
+          let b = bytes-sum in
+          let c = known-bound .0 in
+          let d = known-bound .1 in
+          record {
+            lies = l;
+            small = z;
+            words-all = places-all in-words ms ps (known .sizes .words-all) (known .sizes .words-are) e k;
+            bytes-all = places-all in-bytes ms qs (known .sizes .bytes-all) (known .sizes .bytes-are) f x;
+            words-few = places-few in-words ms ps (known .sizes .words-all) (known .sizes .words-are) e k 0x1000000 (omega arith) (last-small .0);
+            bytes-few = places-few in-bytes ms qs (known .sizes .bytes-all) (known .sizes .bytes-are) f x 0x1000000 (omega arith) (last-small .1);
+          }
+
+      count-small : count < 2 ^ 32
       count-small =
           let a = known .counted in
           let b = flat-length (λ (x : Branch). x) (allOf memberKind memberBranches 0 ms) in
           let c = known-bound .0 in
           let d = flat-length (nameBranch 24) (lastNames ms) in
-          let e = names .few in
+          let g = names .few in
           omega arith
 
-      module _ {u : Current} {i w counted₂ : ℕ} {vs₃ us₃ : List ℕ} {noted₂ : Noted} (props : Passes 25 s t (lent k vs₂ x us₂) u (lent i vs₃ w us₃) counted₂ noted₂) where
-        pub put-asks : {p : ℕ} → p ≡ startIn t → (i + 7 < 2 ^ 64) × (p < 2 ^ 32) × (count < 2 ^ 32)
-        put-asks e =
-            let a = names-roomy .room in
-            let b = props .lays .bound in
-            let c = props .lays .stores .words-end in
-            let d = placed-in s u (props .onward .lies) in
-            let f = placed-in s t l in
-            let g = start-small s t l in
+      module _ {u : Current} {n₂ y₂ count₂ : ℕ} {noted₂ : Noted} {ps₂ qs₂ vs₂ us₂ : List ℕ} (passes : Passes s t (set ps₁ 11 k) (set qs₁ 11 x) ps₂ qs₂ vs us vs₂ us₂ u n₂ y₂ count₂ noted₂) where
+        fills : Fills memberPlace memberBranches 13 ms (set ps₁ 11 k) (set qs₁ 11 x) ps₂ qs₂ vs us vs₂ us₂
+        fills = let q : passes .found ≡ ms = together (passes .gives) (known .surveyed .gives) in rw q at (passes .fills)
+
+        pub ends-all : (length ps₂ ≡ 13) × (length qs₂ ≡ 13)
+        ends-all = (fills .same-places ∙ pass-begins .words-all, fills .same-bytes ∙ pass-begins .bytes-all)
+
+        words-end : getD ps₂ 11 0 ≡ k + width * length (groupOf ms 11)
+        words-end = let a = place-eleven in-words ms ps (known .sizes .words-all) (known .sizes .words-are) e k in let b = fills .words-on 11 (omega arith) in omega arith
+
+        bytes-end : getD qs₂ 11 0 ≡ x + length (textsOf (groupOf ms 11))
+        bytes-end = let a = place-eleven in-bytes ms qs (known .sizes .bytes-all) (known .sizes .bytes-are) f x in let b = fills .bytes-on 11 (omega arith) in omega arith
+
+        -- the last group is that of external props
+        props-are : groupOf ms 11 ≡ flat nodes (allOf memberKind memberBranches 25 ms)
+        props-are = ap (flat nodes) (group-is memberKind memberBranches storedKinds stored-distinct stored-positive 11 (omega arith) ms)
+
+        pub put-asks : {p : ℕ} → p ≡ startIn t → (getD ps₂ 11 0 + 7 < 2 ^ 64) × (p < 2 ^ 32) × (count < 2 ^ 32)
+        put-asks g =
+            let a = words-end in
+            let b = last-small .0 in
+            let c = ap length props-are in
+            let d = top-weighs ms nodes-of in
+            let h = known-bound .0 in
+            let i = start-small s t l in
             (omega arith, omega arith, count-small)
 
         abbrev own : List Node
         own = node 1 (startIn t) [] (flag (noted .delim)) 0 count ∷ []
 
-        same-found : props .found ≡ ms
-        same-found = together (props .gives) (known .surveyed .gives)
-
         -- how many branches the grammar's record has
         children : grammarChildren ms ≡ count
         children = let a = top-weighs ms number in let b = known .counted in omega arith
 
-        whole-nodes : nodes (grammarBranch (grammarOf (startIn t) ms))
-            ≡ flat nodes (groupsOf memberKind memberBranches declaredKinds ms) ++ flat (nodesOf (nameBranch 24)) (lastNames ms) ++ flat nodes (allOf memberKind memberBranches 25 ms) ++ own
-        whole-nodes = grammar-nodes (startIn t) ms ∙ rw (known .noted .delim, children)
+        whole-nodes : nodes (grammarBranch (grammarOf (startIn t) ms)) ≡ firstOf ms 11 ++ naming ++ groupOf ms 11 ++ own
+        whole-nodes = grammar-nodes (startIn t) ms ∙ rw (known .noted .delim, children, props-are)
 
-        module _ {p v j : ℕ} {vs₄ : List ℕ} (e : p ≡ startIn t) (f : v ≡ flag (noted .delim)) (put : StoresPlain (node 1 p [] v 0 count) i vs₃ j vs₄) where
-          stores-props : Stores (flat nodes (allOf memberKind memberBranches 25 ms)) (lent k vs₂ x us₂) (lent i vs₃ w us₃)
-          stores-props = rw same-found at (props .lays .stores)
+        words-are : grammarWords (grammarOf (startIn t) ms) ≡ words (recordsFrom 0 (firstOf ms 11 ++ naming ++ groupOf ms 11 ++ own))
+        words-are = words-of (grammarOf (startIn t) ms) ∙ ap (λ (l : List Node). words (recordsFrom 0 l)) whole-nodes
 
-          stores-own : Stores own (lent i vs₃ w us₃) (lent j vs₄ w us₃)
-          stores-own = rw (e, f) at (put .stores w us₃)
+        texts-are : grammarTexts (grammarOf (startIn t) ms) ≡ textsOf (firstOf ms 11 ++ naming ++ groupOf ms 11 ++ own)
+        texts-are = texts-of (grammarOf (startIn t) ms) ∙ ap textsOf whole-nodes
 
-          stores-all : Stores (nodes (grammarBranch (grammarOf (startIn t) ms))) (lent 0 ws 0 ts) (lent j vs₄ w us₃)
-          stores-all = rw whole-nodes (stores-then (stores-then (stores-then st (names .stores)) stores-props) stores-own)
+        module _ {p v j : ℕ} {vs₃ : List ℕ} (pe : p ≡ startIn t) (ve : v ≡ flag (noted .delim)) (put : StoresPlain (node 1 p [] v 0 count) (getD ps₂ 11 0) vs₂ j vs₃) where
+          stores-own : Stores own (lent (getD ps₂ 11 0) vs₂ (getD qs₂ 11 0) us₂) (lent j vs₃ (getD qs₂ 11 0) us₂)
+          stores-own = rw (pe, ve) at (put .stores (getD qs₂ 11 0) us₂)
 
-          words-end : j ≡ length (grammarWords (grammarOf (startIn t) ms))
-          words-end = let a = stores-all .words-end in let b = words-length 0 (nodes (grammarBranch (grammarOf (startIn t) ms))) in let c = ap length (words-of (grammarOf (startIn t) ms)) in omega arith
+          words-fit : width * length (firstOf ms 11 ++ naming ++ groupOf ms 11 ++ own) ≤ length ws
+          words-fit = let a = known .words-fit in let b = ap length words-are in let c = words-length 0 (firstOf ms 11 ++ naming ++ groupOf ms 11 ++ own) in omega arith
 
-          texts-end : w ≡ length (grammarTexts (grammarOf (startIn t) ms))
-          texts-end = let a = stores-all .texts-end in let c = ap length (texts-of (grammarOf (startIn t) ms)) in omega arith
+          bytes-fit : length (textsOf (firstOf ms 11 ++ naming ++ groupOf ms 11 ++ own)) ≤ length ts
+          bytes-fit = let a = known .bytes-fit in let b = ap length texts-are in omega arith
 
-          pub whole-read : Read s ws ts vs₄ us₃ j w
+          words-written : vs₃ ≡ written ws 0 (words (recordsFrom 0 (firstOf ms 11 ++ naming ++ groupOf ms 11 ++ own)))
+          words-written =
+              all-written in-words ms naming own words-at bytes-at (names .stores .words-end) (names .stores .texts-end) words-end bytes-end (set ps₁ 11 k) (set qs₁ 11 x)
+              (place-first in-words ms ps (known .sizes .words-all) (known .sizes .words-are) e k)
+              (place-first in-bytes ms qs (known .sizes .bytes-all) (known .sizes .bytes-are) f x)
+              (place-eleven in-words ms ps (known .sizes .words-all) (known .sizes .words-are) e k)
+              (place-eleven in-bytes ms qs (known .sizes .bytes-all) (known .sizes .bytes-are) f x)
+              (place-behind in-words ms ps (known .sizes .words-all) (known .sizes .words-are) e k naming own)
+              words-fit (put-words (names .stores)) (fills .records) (put-words stores-own)
+
+          bytes-written : us₂ ≡ written ts 0 (textsOf (firstOf ms 11 ++ naming ++ groupOf ms 11 ++ own))
+          bytes-written =
+              all-written in-bytes ms naming own bytes-at bytes-at (names .stores .texts-end) (names .stores .texts-end) bytes-end bytes-end (set qs₁ 11 x) (set qs₁ 11 x)
+              (place-first in-bytes ms qs (known .sizes .bytes-all) (known .sizes .bytes-are) f x)
+              (place-first in-bytes ms qs (known .sizes .bytes-all) (known .sizes .bytes-are) f x)
+              (place-eleven in-bytes ms qs (known .sizes .bytes-all) (known .sizes .bytes-are) f x)
+              (place-eleven in-bytes ms qs (known .sizes .bytes-all) (known .sizes .bytes-are) f x)
+              (place-behind in-bytes ms qs (known .sizes .bytes-all) (known .sizes .bytes-are) f x naming own)
+              bytes-fit (put-texts (names .stores)) (fills .texts) (put-texts stores-own)
+
+          -- how many words and bytes are taken
+          words-taken : j ≡ length (grammarWords (grammarOf (startIn t) ms))
+          words-taken =
+              let a = stores-own .words-end in
+              let b = words-end in
+              let c = names .stores .words-end in
+              let d = words-at in
+              let g = grammar-words (startIn t) ms in
+              let h = top-weighs ms nodes-of in
+              let i = ap length props-are in
+              omega arith
+
+          bytes-taken : getD qs₂ 11 0 ≡ length (grammarTexts (grammarOf (startIn t) ms))
+          bytes-taken =
+              let b = bytes-end in
+              let c = names .stores .texts-end in
+              let d = bytes-at in
+              let g = grammar-bytes (startIn t) ms in
+              let h = top-weighs ms bytes-of in
+              let i = ap (λ (l : List Node). length (textsOf l)) props-are in
+              omega arith
+
+          pub whole-read : Read s ws ts vs₃ us₂ j (getD qs₂ 11 0)
           whole-read =
-              let a = words-end in
-              let b = texts-end in
+              let a = words-taken in
+              let b = bytes-taken in
               let c = known .words-fit in
               let d = known .bytes-fit in
               let q = known .few in
@@ -155,8 +238,8 @@ module _ {s : List ℕ} {t last : Current} {noted : Noted} {count : ℕ} {ws ts 
                 few = omega arith;
                 words-fit = omega arith;
                 bytes-fit = omega arith;
-                records = rw (words-of (grammarOf (startIn t) ms)) (front-words stores-all (omega arith));
-                texts = rw (texts-of (grammarOf (startIn t) ms)) (front-texts stores-all (omega arith));
+                records = words-written ∙ ap (λ (l : List ℕ). written ws 0 l) (sym words-are) ∙ at-front (grammarWords (grammarOf (startIn t) ms)) ws c;
+                texts = bytes-written ∙ ap (λ (l : List ℕ). written ts 0 l) (sym texts-are) ∙ at-front (grammarTexts (grammarOf (startIn t) ms)) ts d;
               }
 
 -- ------------------------------------------------------------------ answers by their variants
@@ -167,14 +250,6 @@ never e f = absurd (apart (sym e ∙ f))
   where
     apart : {A : Type 0} {a : A} {us : Tokens ℕ} {c p : ℕ} → read a us ≡ refused c p → ⊥
     apart q = let z : _≡_ {A = ℕ} 0 1 = cc in omega arith
-
-module _ (s : List ℕ) (t : Current) (a : Lent) (ws ts : List ℕ) (r : Listed) (h : GroupsTo s t a ws ts r) where
-  pub grouped : {u : Current} {n x count : ℕ} → r ≡ Done u n x count → (ms : List (Member ℕ)) (us : Tokens ℕ) → members (stream s t) ≡ read ms us
-      → Stores (flat nodes (groupsOf memberKind memberBranches declaredKinds ms)) a (lent n ws x ts)
-  grouped q = rw q at h
-
-  pub grouped-not : {c : Cause} {p : ℕ} → r ≡ Refused c p → members (stream s t) ≡ refused (causeNumber c) p
-  grouped-not q = rw q at h
 
 module _ (s : List ℕ) (n : Noted) (a : Lent) (ws ts : List ℕ) (r : Listed) (h : NamesTo s n a ws ts r) where
   pub named : {u : Current} {m x count : ℕ} → r ≡ Done u m x count → (ns : List (Identifier ℕ)) → NamedIs s (n .listed) (n .last) ns → Names ns s a (lent m ws x ts) count

@@ -1,4 +1,4 @@
--- What is noted of declarations, one more at a time; a declaration whose kind is wanted or not; the names of the last `@dialects`.
+-- What is noted of declarations, one more at a time; a declaration by its variant; the names of the last `@dialects`.
 -- Assumes nothing.
 use Prim.Native.Nat.{ℕ, _≤_}
 use native.Mathlib.Omega.{arith}
@@ -29,24 +29,13 @@ use Rattle.parser.specs.declared.props.Listed.the-variants as L
 use Rattle.parser.proofs.Stored.{stores-none}
 use Rattle.parser.proofs.Onward.{placed-in}
 use Rattle.parser.proofs.Lists.{flat-none, lays-none, lays-between}
-use Rattle.reader.specs.Groups.{wants}
 use Rattle.reader.specs.Directives.{past, memberKind, memberBranches, memberTop, SeenIs, Declares, DeclaresTo}
-use Rattle.reader.specs.Whole.{Picks, PicksTo, recordsOf, noteOf, lastNames, NamedAt, NamedIs, NotedIs, HasNames, Names, NamesTo}
+use Rattle.reader.specs.Whole.{Places, PlacesTo, recordsOf, noteOf, lastNames, NamedAt, NamedIs, NotedIs, HasNames, Names, NamesTo}
 use Rattle.reader.specs.declared.directives.Seen.{Seen}
 use Rattle.reader.specs.declared.directives.Declared.{Declared}
 use Rattle.reader.specs.declared.directives.Declared.the-variants.{Done, Refused}
 use Rattle.reader.specs.declared.whole.Noted.{Noted}
-use Rattle.reader.proofs.MemberLaws.{wants-same, wants-other}
 use Rattle.reader.proofs.TopLaws.{beforeOf, before-seen, past-not, past-at, past-onward}
-
--- ------------------------------------------------------------------ a declaration, by its variant
-
-module _ (want : ℕ) (k : Seen) (s : List ℕ) (t : Current) (a : Lent) (ws ts : List ℕ) (r : Declared) (h : PicksTo want k s t a ws ts r) where
-  pub picks-at : {u : Current} {n x kind : ℕ} {top : Bool} → r ≡ Done u n x kind top → Picks want k s t a u (lent n ws x ts) kind top
-  picks-at q = rw q at h
-
-  pub picks-not : {c : Cause} {p : ℕ} → r ≡ Refused c p → (before : List (Member ℕ)) → SeenIs k before → parseDeclaration before (stream s t) ≡ refused (causeNumber c) p
-  picks-not q = rw q at h
 
 -- ------------------------------------------------------------------ one more behind
 
@@ -178,8 +167,8 @@ unfolding picked hasKind hasTop lastNames concat lastOf
 noted-start s t = record { seen = record { tokens = refl; context = refl; precedence = refl; skip = refl }; top = refl; delim = refl; named = refl }
 
 -- one more that was read
-pub noted-more : {s : List ℕ} {n : Noted} {ms : List (Member ℕ)} {want kind : ℕ} {top : Bool} {t u : Current} {a b : Lent} → NotedIs s n ms → LiesIn s 0 t → IsToken t
-    → (p : Picks want (n .seen) s t a u b kind top) → NotedIs s (noteOf n t kind top) (ms ++ p .value ∷ [])
+pub noted-more : {s : List ℕ} {n : Noted} {ms : List (Member ℕ)} {D : List (Member ℕ) → Answer ℕ (Member ℕ)} {kind : ℕ} {top : Bool} {t u : Current} {a b : Lent} → NotedIs s n ms → LiesIn s 0 t → IsToken t
+    → (p : Declares D (n .seen) s t a u b kind top) → NotedIs s (noteOf n t kind top) (ms ++ p .value ∷ [])
 noted-more {s} {n} {ms} {kind = kind} {top} {t} {u} h l i p =
     let m = p .value in
     record {
@@ -205,17 +194,16 @@ counted-more (dialects ns) = refl
 counted-more (externalProp x) = refl
 counted-more detectDelim = refl
 
--- ------------------------------------------------------------------ a declaration whose kind is wanted or not
+-- ------------------------------------------------------------------ a declaration, by its variant
 
 module _ (k : Seen) (s : List ℕ) (t : Current) where
   abbrev declarationAt : List (Member ℕ) → Answer ℕ (Member ℕ)
   declarationAt before = parseDeclaration before (stream s t)
 
   -- a declaration that is read twice is the same
-  same-declared : {a c d e : Lent} {u v : Current} {i j : ℕ} {x y : Bool} (f : Declares declarationAt k s t a u c i x) (g : Declares declarationAt k s t d v e j y) → f .value ≡ g .value
+  pub same-declared : {a c d e : Lent} {u v : Current} {i j : ℕ} {x y : Bool} (f : Declares declarationAt k s t a u c i x) (g : Declares declarationAt k s t d v e j y) → f .value ≡ g .value
   same-declared f g = let p = f .gives (beforeOf k) (before-seen k) in let q = g .gives (beforeOf k) (before-seen k) in cc
 
-  -- by its variant
   module _ (a : Lent) (ws ts : List ℕ) (r : Declared) (h : DeclaresTo declarationAt k s t a ws ts r) where
     pub declared-at : {u : Current} {n x kind : ℕ} {top : Bool} → r ≡ Done u n x kind top → Declares declarationAt k s t a u (lent n ws x ts) kind top
     declared-at q = rw q at h
@@ -223,42 +211,12 @@ module _ (k : Seen) (s : List ℕ) (t : Current) where
     pub declared-not : {c : Cause} {p : ℕ} → r ≡ Refused c p → (before : List (Member ℕ)) → SeenIs k before → declarationAt before ≡ refused (causeNumber c) p
     declared-not q = rw q at h
 
-  module _ (want : ℕ) where
-    picks-by : (a : Lent) (ws ts : List ℕ) {u : Current} {n x i : ℕ} {top : Bool} (g : Declares declarationAt k s t a u (lent n ws x ts) i top) → wants want (memberKind (g .value)) ≡ true
-        → Picks want k s t a u (lent n ws x ts) i top
-    picks-by a ws ts g z =
-        record { value = g .value; gives = g .gives; onward = g .onward; kinds = g .kinds; tops = g .tops; named = g .named; lays = rw z (g .lays) }
+  module _ (ps qs ps₁ qs₁ ws ts vs us : List ℕ) (r : Declared) (h : PlacesTo k s t ps qs ps₁ qs₁ ws ts vs us r) where
+    pub placed-at : {u : Current} {n x kind : ℕ} {top : Bool} → r ≡ Done u n x kind top → Places k s t ps qs ps₁ qs₁ ws ts vs us u n x kind top
+    placed-at q = rw q at h
 
-    -- where all are wanted
-    pub picks-all : (a : Lent) (ws ts : List ℕ) (r : Declared) → want ≡ 0 → DeclaresTo declarationAt k s t a ws ts r → PicksTo want k s t a ws ts r
-    picks-all a ws ts (Done u n x i top) e g = picks-by a ws ts g (rw e)
-    picks-all a ws ts (Refused c p) e g = g
-
-    -- a kind that is wanted, by a first reading
-    pub picks-wanted : (a : Lent) (ws ts : List ℕ) (r : Declared) {d e : Lent} {u : Current} {i : ℕ} {top : Bool} → Declares declarationAt k s t d u e i top → i ≡ want
-        → DeclaresTo declarationAt k s t a ws ts r → PicksTo want k s t a ws ts r
-    picks-wanted a ws ts (Done v n x j b) f q g = picks-by a ws ts g (rw (← same-declared f g, f .kinds, q) (wants-same want))
-    picks-wanted a ws ts (Refused c p) f q g = g
-
-    -- in words and bytes that are the same
-    pub picks-same : (n x : ℕ) (ws ts vs us qs bs : List ℕ) (r : Declared) → vs ≡ ws → us ≡ ts → PicksTo want k s t (lent n vs x us) qs bs r → PicksTo want k s t (lent n ws x ts) qs bs r
-    picks-same n x ws ts vs us qs bs r e f h = rw (e, f) at h
-
-    -- one that is not
-    pub picks-passed : {d e : Lent} {u : Current} {i n x : ℕ} {top : Bool} {ws ts vs us : List ℕ} → Declares declarationAt k s t d u e i top → (want ≡ 0 → ⊥) → (i ≡ want → ⊥) → vs ≡ ws → us ≡ ts
-        → Picks want k s t (lent n ws x ts) u (lent n vs x us) i top
-    picks-passed {n = n} {x} {ws = ws} {ts} f h q v w =
-        let z : wants want (memberKind (f .value)) ≡ false = rw (f .kinds) (wants-other want _ h q) in
-        let o = f .onward .ahead in
-        record {
-          value = f .value;
-          gives = f .gives;
-          onward = f .onward;
-          kinds = f .kinds;
-          tops = f .tops;
-          named = f .named;
-          lays = rw (z, flat-none nodes, v, w) (lays-between 0 (lays-none t 0 (lent n ws x ts)) (omega arith) (omega arith) (omega arith));
-        }
+    pub placed-not : {c : Cause} {p : ℕ} → r ≡ Refused c p → (before : List (Member ℕ)) → SeenIs k before → declarationAt before ≡ refused (causeNumber c) p
+    placed-not q = rw q at h
 
 -- ------------------------------------------------------------------ the names of dialects
 

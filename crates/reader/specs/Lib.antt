@@ -1,3 +1,4 @@
+pub mod Places
 pub mod Groups
 pub mod Blocks
 pub mod Directives

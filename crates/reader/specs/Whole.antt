@@ -5,13 +5,13 @@ use mathlib.Core.Path.{_≡_}
 use mathlib.Core.Bool.{Bool, true, false, not, _||_}
 use mathlib.Core.List.{List, [], _∷_, _++_}
 use lib.Dec.{eqb}
-use lib.ListN.{length, drop}
+use lib.ListN.{length, drop, getD, set}
 use Rattle.basics.specs.Basics.{if_then_else_, isEmpty, picked, concat, lastOf}
 use Rattle.error.specs.Causes.{recordsFull, textsFull}
 use Rattle.error.specs.Promise.{causeNumber}
 use Rattle.lexer.specs.Tokens.{Tokens}
 use Rattle.lexer.specs.Promise.{tokensAt}
-use Rattle.tree.specs.Records.{nodes, textsOf}
+use Rattle.tree.specs.Records.{nodes, textsOf, width}
 use Rattle.tree.specs.Stored.{nameBranch, flag, grammarWords, grammarTexts}
 use Rattle.tree.specs.Syntax.{Identifier, GrammarDeclaration}
 use Rattle.notation.specs.Parser.{Answer, read, refused, Parser, _>>=_, pure, kind, isEnd, until, nothing, arrive}
@@ -24,8 +24,9 @@ use Rattle.parser.specs.Steps.{placed, Onward, Lays}
 use Rattle.tokens.specs.declared.Current.{Current}
 use Rattle.parser.specs.declared.props.Listed.{Listed}
 use Rattle.parser.specs.declared.props.Listed.the-variants as L
-use Rattle.reader.specs.Groups.{chosen, allOf, groupsOf, MeasuredAs}
-use Rattle.reader.specs.Directives.{past, memberKind, memberBranches, memberTop, SeenIs}
+use Rattle.reader.specs.Groups.{allOf, MeasuredAs}
+use Rattle.reader.specs.Places.{placeIn, groupAt, Fills}
+use Rattle.reader.specs.Directives.{past, memberKind, memberBranches, SeenIs, Declares}
 use Rattle.reader.specs.declared.directives.Seen.{Seen}
 use Rattle.reader.specs.declared.directives.Declared.{Declared}
 use Rattle.reader.specs.declared.directives.Declared.the-variants as D
@@ -38,20 +39,6 @@ use Rattle.reader.specs.declared.whole.Whole.the-variants as W
 -- the declarations up to the end
 abbrev pub members : Parser ℕ (List (Member ℕ))
 members = until (kind >>= λ k. pure (isEnd k)) nothing parseDeclaration
-
--- with these kinds before, a declaration is read, and its branches are stored if its kind is wanted
-pub record Picks (want : ℕ) (k : Seen) (s : List ℕ) (t : Current) (a : Lent) (u : Current) (b : Lent) (kind : ℕ) (top : Bool) : Type 0 where
-  pub value : Member ℕ
-  pub gives : (before : List (Member ℕ)) → SeenIs k before → parseDeclaration before (stream s t) ≡ read value (stream s u)
-  pub onward : Onward s t u 1
-  pub kinds : memberKind value ≡ kind
-  pub tops : memberTop value ≡ top
-  pub named : (ns : List (Identifier ℕ)) → value ≡ dialects ns → past names (stream s t) ≡ read ns (stream s u)
-  pub lays : Lays s t u 0 (flat nodes (chosen memberKind memberBranches want value)) a b
-
-abbrev pub PicksTo : (want : ℕ) → Seen → List ℕ → Current → Lent → (words texts : List ℕ) → Declared → Type 0
-PicksTo w k s t a ws ts (D.Done u n x kind top) = Picks w k s t a u (lent n ws x ts) kind top
-PicksTo w k s t a ws ts (D.Refused c p) = (before : List (Member ℕ)) → SeenIs k before → parseDeclaration before (stream s t) ≡ refused (causeNumber c) p
 
 -- ------------------------------------------------------------------ what is noted
 
@@ -98,20 +85,58 @@ pub record NotedIs (s : List ℕ) (n : Noted) (ms : List (Member ℕ)) : Type 0 
   pub delim : not (isEmpty (picked detects ms)) ≡ n .delim
   pub named : NamedIs s (n .listed) (n .last) (lastNames ms)
 
+-- ------------------------------------------------------------------ groups
+
+-- the kinds of declarations in the order of their groups, and those of all that is stored but dialects
+abbrev pub declaredKinds : List ℕ
+declaredKinds = 2 ∷ 3 ∷ 8 ∷ 12 ∷ 14 ∷ 16 ∷ 18 ∷ 19 ∷ 20 ∷ 22 ∷ 23 ∷ []
+
+abbrev pub storedKinds : List ℕ
+storedKinds = 2 ∷ 3 ∷ 8 ∷ 12 ∷ 14 ∷ 16 ∷ 18 ∷ 19 ∷ 20 ∷ 22 ∷ 23 ∷ 25 ∷ []
+
+-- the group of a member; what has no records in one stands behind them all, so there are so many
+abbrev pub memberPlace : Member ℕ → ℕ
+memberPlace m = placeIn storedKinds (memberKind m)
+
+abbrev pub groupCount : ℕ
+groupCount = 13
+
+-- each group has a place in the words and one in the bytes, none of them past a limit, and the text is short
+pub record Begins (limit : ℕ) (s : List ℕ) (t : Current) (wordPlaces bytePlaces : List ℕ) : Type 0 where
+  pub lies : LiesIn s 0 t
+  pub small : length s ≤ 0x10000
+  pub words-all : length wordPlaces ≡ groupCount
+  pub bytes-all : length bytePlaces ≡ groupCount
+  pub words-few : (g : ℕ) → getD wordPlaces g 0 ≤ limit
+  pub bytes-few : (g : ℕ) → getD bytePlaces g 0 ≤ limit
+
+-- with these kinds before, a declaration is read that takes so many words and bytes, and it is stored where its group goes on
+pub record Places (k : Seen) (s : List ℕ) (t : Current) (ps qs ps₁ qs₁ ws ts vs us : List ℕ) (u : Current) (words bytes kind : ℕ) (top : Bool) : Type 0 where
+  pub declares : Declares (λ before. parseDeclaration before (stream s t)) k s t (lent 0 [] 0 []) u (lent words [] bytes []) kind top
+  pub words-on : ps₁ ≡ set ps (memberPlace (declares .value)) (getD ps (memberPlace (declares .value)) 0 + words)
+  pub bytes-on : qs₁ ≡ set qs (memberPlace (declares .value)) (getD qs (memberPlace (declares .value)) 0 + bytes)
+  pub stores : Stores (flat nodes (memberBranches (declares .value))) (lent (getD ps (memberPlace (declares .value)) 0) ws (getD qs (memberPlace (declares .value)) 0) ts)
+      (lent (getD ps (memberPlace (declares .value)) 0 + words) vs (getD qs (memberPlace (declares .value)) 0 + bytes) us)
+
+abbrev pub PlacesTo : Seen → List ℕ → Current → (ps qs ps₁ qs₁ ws ts vs us : List ℕ) → Declared → Type 0
+PlacesTo k s t ps qs ps₁ qs₁ ws ts vs us (D.Done u n x kind top) = Places k s t ps qs ps₁ qs₁ ws ts vs us u n x kind top
+PlacesTo k s t ps qs ps₁ qs₁ ws ts vs us (D.Refused c p) = (before : List (Member ℕ)) → SeenIs k before → parseDeclaration before (stream s t) ≡ refused (causeNumber c) p
+
 -- ------------------------------------------------------------------ a pass
 
--- all declarations are read, and the branches of those whose kind is wanted are stored
-pub record Passes (want : ℕ) (s : List ℕ) (t : Current) (a : Lent) (u : Current) (b : Lent) (count : ℕ) (n : Noted) : Type 0 where
+-- all declarations are read, which take so many words and bytes, and their groups are filled in
+pub record Passes (s : List ℕ) (t : Current) (ps qs ps₁ qs₁ ws ts vs us : List ℕ) (u : Current) (words bytes count : ℕ) (n : Noted) : Type 0 where
   pub found : List (Member ℕ)
   pub gives : members (stream s t) ≡ read found (stream s u)
   pub onward : Onward s t u 0
   pub counted : length (allOf memberKind memberBranches 0 found) ≡ count
-  pub lays : Lays s t u 0 (flat nodes (allOf memberKind memberBranches want found)) a b
+  pub lays : Lays s t u 0 (flat nodes (allOf memberKind memberBranches 0 found)) (lent 0 [] 0 []) (lent words [] bytes [])
   pub noted : NotedIs s n found
+  pub fills : Fills memberPlace memberBranches groupCount found ps qs ps₁ qs₁ ws ts vs us
 
-abbrev pub PassesTo : (want : ℕ) → List ℕ → Current → Lent → (words texts : List ℕ) → Passed → Type 0
-PassesTo w s t a ws ts (P.Done u n x count noted) = Passes w s t a u (lent n ws x ts) count noted
-PassesTo w s t a ws ts (P.Refused c p) = members (stream s t) ≡ refused (causeNumber c) p
+abbrev pub PassesTo : List ℕ → Current → (ps qs ps₁ qs₁ ws ts vs us : List ℕ) → Passed → Type 0
+PassesTo s t ps qs ps₁ qs₁ ws ts vs us (P.Done u n x count noted) = Passes s t ps qs ps₁ qs₁ ws ts vs us u n x count noted
+PassesTo s t ps qs ps₁ qs₁ ws ts vs us (P.Refused c p) = members (stream s t) ≡ refused (causeNumber c) p
 
 -- ------------------------------------------------------------------ dialects
 
@@ -131,32 +156,32 @@ abbrev pub NamesTo : List ℕ → Noted → Lent → (words texts : List ℕ) �
 NamesTo s n a ws ts (L.Done u m x count) = (ns : List (Identifier ℕ)) → NamedIs s (n .listed) (n .last) ns → Names ns s a (lent m ws x ts) count
 NamesTo s n a ws ts (L.Refused c p) = ⊥
 
--- ------------------------------------------------------------------ groups
+-- ------------------------------------------------------------------ what is measured
 
--- the kinds of declarations in the order of their groups, and those of all that is stored but dialects
-abbrev pub declaredKinds : List ℕ
-declaredKinds = 2 ∷ 3 ∷ 8 ∷ 12 ∷ 14 ∷ 16 ∷ 18 ∷ 19 ∷ 20 ∷ 22 ∷ 23 ∷ []
+-- no group has a size yet
+pub record Blank (sizes : List ℕ) : Type 0 where
+  pub all : length sizes ≡ groupCount
+  pub none : (g : ℕ) → getD sizes g 0 ≡ 0
 
-abbrev pub storedKinds : List ℕ
-storedKinds = 2 ∷ 3 ∷ 8 ∷ 12 ∷ 14 ∷ 16 ∷ 18 ∷ 19 ∷ 20 ∷ 22 ∷ 23 ∷ 25 ∷ []
+-- the sizes of the groups of members, in words and in bytes
+pub record Sizes (ms : List (Member ℕ)) (words bytes : List ℕ) : Type 0 where
+  pub words-all : length words ≡ groupCount
+  pub bytes-all : length bytes ≡ groupCount
+  pub words-are : (g : ℕ) → g < groupCount → getD words g 0 ≡ width * length (flat nodes (groupAt memberPlace memberBranches g ms))
+  pub bytes-are : (g : ℕ) → g < groupCount → getD bytes g 0 ≡ length (textsOf (flat nodes (groupAt memberPlace memberBranches g ms)))
 
 -- all declarations are measured
 abbrev pub Surveyed : List ℕ → (t last : Current) → Type 0
 Surveyed s t last = MeasuredAs (members (stream s t)) memberKind memberBranches 0 s t last
 
--- the groups of declarations are stored
-abbrev pub GroupsTo : List ℕ → Current → Lent → (words texts : List ℕ) → Listed → Type 0
-GroupsTo s t a ws ts (L.Done u n x count) =
-    (ms : List (Member ℕ)) (us : Tokens ℕ) → members (stream s t) ≡ read ms us → Stores (flat nodes (groupsOf memberKind memberBranches declaredKinds ms)) a (lent n ws x ts)
-GroupsTo s t a ws ts (L.Refused c p) = members (stream s t) ≡ refused (causeNumber c) p
-
 -- all is measured, and there is room for it
-pub record Known (s : List ℕ) (t last : Current) (n : Noted) (count : ℕ) (ws ts : List ℕ) : Type 0 where
+pub record Known (s : List ℕ) (t last : Current) (n : Noted) (count : ℕ) (wordSizes byteSizes ws ts : List ℕ) : Type 0 where
   pub arrives : arrive (tokensAt s 0) ≡ read tt (stream s t)
   pub surveyed : Surveyed s t last
   pub noted : NotedIs s n (surveyed .members)
   pub top : n .top ≡ true
   pub counted : length (allOf memberKind memberBranches 0 (surveyed .members)) + length (lastNames (surveyed .members)) ≡ count
+  pub sizes : Sizes (surveyed .members) wordSizes byteSizes
   pub few : length (grammarWords (grammarOf (startIn t) (surveyed .members))) ≤ 28 * length s + 7
   pub words-fit : length (grammarWords (grammarOf (startIn t) (surveyed .members))) ≤ length ws
   pub bytes-fit : length (grammarTexts (grammarOf (startIn t) (surveyed .members))) ≤ length ts

@@ -1,4 +1,4 @@
-// The whole of a grammar file, from its first token on. A first pass measures; then each group is stored in a pass of its own.
+// The whole of a grammar file, from its first token on. A first pass measures each group; a second stores each declaration in its group.
 use crate::directives::Declared;
 use crate::directives::Seen;
 use crate::top;
@@ -8,17 +8,17 @@ use parser::props::Listed;
 use parser::store;
 use tokens::Arrived;
 use tokens::Current;
-ghost use Prim.Native.Nat.{_≤_};
+ghost use Prim.Native.Nat.{_≤_, _<_, _^_};
 ghost use mathlib.Core.Path.{_≡_};
 ghost use mathlib.Core.Bool.{_||_};
 ghost use lib.Dec.{eqb};
 ghost use Rattle.basics.specs.Basics.{if_then_else_};
-ghost use lib.ListN.{length, getD};
+ghost use lib.ListN.{length};
 ghost use Rattle.tree.specs.Stored.{flag as flagD};
 ghost use Rattle.tokens.specs.Promise.{LiesIn};
 ghost use Rattle.parser.specs.Storing.{lent};
-ghost use Rattle.reader.specs.Blocks.{Roomy};
-ghost use Rattle.reader.specs.Whole.{PicksTo, recordsOf, noteOf, PassesTo, HasNames, NamesTo, storedKinds, Surveyed, GroupsTo, Known, First, Reads};
+ghost use Rattle.reader.specs.Places.{placeIn, sum, linedUp};
+ghost use Rattle.reader.specs.Whole.{Begins, PlacesTo, recordsOf, noteOf, PassesTo, HasNames, NamesTo, storedKinds, Blank, Known, First, Reads};
 
 // What a pass has seen: which kinds, a top rule, `@detectDelim`, a list of dialects, and where the last one begins.
 pub struct Noted {
@@ -49,39 +49,65 @@ fn either(a: bool, b: bool) -> bool
     b
 }
 
-// A declaration, stored if its kind is wanted; 0 wants all.
-fn declaration_wanted(
+// Where the group of a kind stands among the groups; behind them what has no records in one.
+fn place(kind: u32) -> usize
+    ensures { λ r. ⌜ r ≡ placeIn storedKinds kind ⌝ }
+{
+    match kind {
+        2 => 0,
+        3 => 1,
+        8 => 2,
+        12 => 3,
+        14 => 4,
+        16 => 5,
+        18 => 6,
+        19 => 7,
+        20 => 8,
+        22 => 9,
+        23 => 10,
+        25 => 11,
+        _ => 12,
+    }
+}
+
+// A declaration, stored where its group goes on, and how much it takes; the places of the group move on. A first reading, over nothing,
+// shows its kind, and is enough where nothing is lent.
+fn declaration_placed(
     source: &[u8],
     token: Current,
     seen: Seen,
-    want: u32,
+    words: &mut [usize],
+    bytes: &mut [usize],
     records: &mut [u32],
-    n: usize,
     texts: &mut [u8],
-    x: usize,
 ) -> Declared
-    requires { ⌜ Roomy (now source) token n x ⌝ }
-    ensures { λ r. ⌜ PicksTo want seen (now (source .entry)) token
-        (lent n (now (records .entry)) x (now (texts .entry))) (now (records .exit)) (now (texts .exit)) r ⌝ }
+    requires { ⌜ Begins 0x10000000 (now source) token (now words) (now bytes) ⌝ }
+    ensures { λ r. ⌜ PlacesTo seen (now (source .entry)) token (now (words .entry)) (now (bytes .entry)) (now (words .exit)) (now (bytes .exit))
+        (now (records .entry)) (now (texts .entry)) (now (records .exit)) (now (texts .exit)) r ⌝ }
 {
-    if want == 0 {
-        return top::parse_declaration(source, token, seen, records, n, texts, x);
-    }
     match top::parse_declaration(
         source,
         token,
         seen,
         &mut records[..0],
-        n,
+        0,
         &mut texts[..0],
-        x,
+        0,
     ) {
         Declared::Refused(cause, at) => Declared::Refused(cause, at),
-        Declared::Done(u, _, _, kind, holds) => {
-            if kind == want {
-                return top::parse_declaration(source, token, seen, records, n, texts, x);
+        Declared::Done(u, m, y, kind, holds) => {
+            let p = place(kind);
+            let n = words[p];
+            let x = bytes[p];
+            words[p] = n + m;
+            bytes[p] = x + y;
+            if records.len() == 0 && texts.len() == 0 {
+                return Declared::Done(u, m, y, kind, holds);
             }
-            Declared::Done(u, n, x, kind, holds)
+            match top::parse_declaration(source, token, seen, records, n, texts, x) {
+                Declared::Refused(cause, at) => Declared::Refused(cause, at),
+                Declared::Done(_, _, _, _, _) => Declared::Done(u, m, y, kind, holds),
+            }
         }
     }
 }
@@ -129,23 +155,22 @@ fn records_of(kind: u32) -> usize
     1
 }
 
-// All declarations up to the end; those whose kind is wanted are stored.
+// All declarations up to the end, each stored where its group goes on, and how much they take.
 fn pass(
     source: &[u8],
     token: Current,
-    want: u32,
+    words: &mut [usize],
+    bytes: &mut [usize],
     records: &mut [u32],
-    n: usize,
     texts: &mut [u8],
-    x: usize,
 ) -> Passed
-    requires { ⌜ Roomy (now source) token n x ⌝ }
-    ensures { λ r. ⌜ PassesTo want (now (source .entry)) token
-        (lent n (now (records .entry)) x (now (texts .entry))) (now (records .exit)) (now (texts .exit)) r ⌝ }
+    requires { ⌜ Begins 0x1000000 (now source) token (now words) (now bytes) ⌝ }
+    ensures { λ r. ⌜ PassesTo (now (source .entry)) token (now (words .entry)) (now (bytes .entry)) (now (words .exit)) (now (bytes .exit))
+        (now (records .entry)) (now (texts .entry)) (now (records .exit)) (now (texts .exit)) r ⌝ }
 {
     let mut t = token;
-    let mut m = n;
-    let mut y = x;
+    let mut m: usize = 0;
+    let mut y: usize = 0;
     let mut count: usize = 0;
     let mut noted = Noted {
         seen: Seen {
@@ -165,7 +190,7 @@ fn pass(
                 return Passed::Done(t, m, y, count, noted);
             }
             Current::Token(_, _, _) => {
-                match declaration_wanted(source, t, noted.seen, want, records, m, texts, y) {
+                match declaration_placed(source, t, noted.seen, words, bytes, records, texts) {
                     Declared::Refused(cause, at) => {
                         return Passed::Refused(cause, at);
                     }
@@ -173,8 +198,8 @@ fn pass(
                         noted = note(noted, t, kind, top);
                         count += records_of(kind);
                         t = u;
-                        m = k;
-                        y = z;
+                        m += k;
+                        y += z;
                     }
                 }
             }
@@ -205,55 +230,19 @@ fn dialects(
     }
 }
 
-// The kind of a group at a place, or 0 behind the last.
-fn group(i: usize) -> u32
-    ensures { λ r. ⌜ r ≡ getD storedKinds i 0 ⌝ }
+// Sizes become places: each begins where the one before it ends.
+fn line_up(sizes: &mut [usize])
+    requires { ⌜ sum (now sizes) < 2 ^ 64 ⌝ }
+    ensures { λ _. ⌜ now (sizes .exit) ≡ linedUp 0 (now (sizes .entry)) ⌝ }
 {
-    match i {
-        0 => 2,
-        1 => 3,
-        2 => 8,
-        3 => 12,
-        4 => 14,
-        5 => 16,
-        6 => 18,
-        7 => 19,
-        8 => 20,
-        9 => 22,
-        10 => 23,
-        11 => 25,
-        _ => 0,
-    }
-}
-
-// The groups of declarations one after another, each in a pass of its own.
-fn groups(
-    source: &[u8],
-    token: Current,
-    last: Current,
-    records: &mut [u32],
-    texts: &mut [u8],
-) -> Listed
-    requires { ⌜ (length (now source) ≤ 0x10000) × Surveyed (now source) token last × LiesIn (now source) 0 token ⌝ }
-    ensures { λ r. ⌜ GroupsTo (now (source .entry)) token
-        (lent 0 (now (records .entry)) 0 (now (texts .entry))) (now (records .exit)) (now (texts .exit)) r ⌝ }
-{
-    let mut m: usize = 0;
-    let mut y: usize = 0;
+    let mut at: usize = 0;
     let mut i: usize = 0;
-    while i < 11 {
-        match pass(source, token, group(i), records, m, texts, y) {
-            Passed::Refused(cause, at) => {
-                return Listed::Refused(cause, at);
-            }
-            Passed::Done(_, k, z, _, _) => {
-                m = k;
-                y = z;
-                i += 1;
-            }
-        }
+    while i < sizes.len() {
+        let size = sizes[i];
+        sizes[i] = at;
+        at += size;
+        i += 1;
     }
-    Listed::Done(last, m, y, 0)
 }
 
 fn flag(b: bool) -> u32
@@ -265,26 +254,35 @@ fn flag(b: bool) -> u32
     0
 }
 
-// All that was measured is stored: the groups, the dialects, the external props, the grammar's record.
+// All that was measured is stored: the dialects before the last group, the groups, the grammar's record.
 fn store(
     source: &[u8],
     token: Current,
     last: Current,
     noted: Noted,
     count: usize,
+    words: &mut [usize],
+    bytes: &mut [usize],
     records: &mut [u32],
     texts: &mut [u8],
 ) -> Whole
-    requires { ⌜ (length (now source) ≤ 0x10000) × LiesIn (now source) 0 token × Known (now source) token last noted count (now records) (now texts) ⌝ }
+    requires { ⌜ (length (now source) ≤ 0x10000) × LiesIn (now source) 0 token × Known (now source) token last noted count (now words) (now bytes) (now records) (now texts) ⌝ }
     ensures { λ r. ⌜ Reads (now (source .entry)) (now (records .entry)) (now (texts .entry)) (now (records .exit)) (now (texts .exit)) r ⌝ }
 {
-    match groups(source, token, last, records, texts) {
+    line_up(words);
+    line_up(bytes);
+    let m = words[11];
+    let y = bytes[11];
+    match dialects(source, noted, records, m, texts, y) {
         Listed::Refused(cause, at) => Whole::Refused(cause, at),
-        Listed::Done(_, m, y, _) => match dialects(source, noted, records, m, texts, y) {
-            Listed::Refused(cause, at) => Whole::Refused(cause, at),
-            Listed::Done(_, k, z, _) => match pass(source, token, 25, records, k, texts, z) {
+        Listed::Done(_, k, z, _) => {
+            words[11] = k;
+            bytes[11] = z;
+            match pass(source, token, words, bytes, records, texts) {
                 Passed::Refused(cause, at) => Whole::Refused(cause, at),
-                Passed::Done(_, i, w, _, _) => {
+                Passed::Done(_, _, _, _, _) => {
+                    let i = words[11];
+                    let w = bytes[11];
                     let j = store::put_plain(
                         records,
                         i,
@@ -295,17 +293,31 @@ fn store(
                     );
                     Whole::Stored(j, w)
                 }
-            },
-        },
+            }
+        }
     }
 }
 
-// From the first token on, the tree of a text is measured, and stored where there is room for all of it.
-pub fn parse_from(source: &[u8], token: Current, records: &mut [u32], texts: &mut [u8]) -> Whole
-    requires { ⌜ (length (now source) ≤ 0x10000) × First (now source) token ⌝ }
+// From the first token on, with room for the sizes of the groups.
+fn parse_over(
+    source: &[u8],
+    token: Current,
+    words: &mut [usize],
+    bytes: &mut [usize],
+    records: &mut [u32],
+    texts: &mut [u8],
+) -> Whole
+    requires { ⌜ (length (now source) ≤ 0x10000) × First (now source) token × Blank (now words) × Blank (now bytes) ⌝ }
     ensures { λ r. ⌜ Reads (now (source .entry)) (now (records .entry)) (now (texts .entry)) (now (records .exit)) (now (texts .exit)) r ⌝ }
 {
-    match pass(source, token, 0, &mut records[..0], 0, &mut texts[..0], 0) {
+    match pass(
+        source,
+        token,
+        words,
+        bytes,
+        &mut records[..0],
+        &mut texts[..0],
+    ) {
         Passed::Refused(cause, at) => Whole::Refused(cause, at),
         Passed::Done(last, n, x, count, noted) => {
             if !noted.top {
@@ -320,9 +332,29 @@ pub fn parse_from(source: &[u8], token: Current, records: &mut [u32], texts: &mu
                     if texts.len() < y {
                         return Whole::Refused(Cause::TextsFull, 0);
                     }
-                    store(source, token, last, noted, count + named, records, texts)
+                    store(
+                        source,
+                        token,
+                        last,
+                        noted,
+                        count + named,
+                        words,
+                        bytes,
+                        records,
+                        texts,
+                    )
                 }
             }
         }
     }
+}
+
+// From the first token on, the tree of a text is measured, and stored where there is room for all of it.
+pub fn parse_from(source: &[u8], token: Current, records: &mut [u32], texts: &mut [u8]) -> Whole
+    requires { ⌜ (length (now source) ≤ 0x10000) × First (now source) token ⌝ }
+    ensures { λ r. ⌜ Reads (now (source .entry)) (now (records .entry)) (now (texts .entry)) (now (records .exit)) (now (texts .exit)) r ⌝ }
+{
+    let mut words = [0usize; 13];
+    let mut bytes = [0usize; 13];
+    parse_over(source, token, &mut words, &mut bytes, records, texts)
 }
