@@ -23,9 +23,10 @@ use Rattle.writer.specs.declared.Written.the-variants.{Bytes, TooLong}
 use Rattle.grammar.specs.Reading.{Reading, tree, stopped, reading, longest}
 use Rattle.grammar.specs.Calls as Calls
 use Rattle.grammar.specs.Calls.{over, roomFor, readBy, read, ReadOutcome, writeBy, normalBy, normal}
-use Rattle.calls.specs.Promise.{readOutcome, ReadTo, Few, normalOutcome, NormalTo}
+use Rattle.calls.specs.Promise.{readOutcome, ReadTo, Few, normalOutcome, WriteTo, NormalTo}
 use Rattle.calls.specs.declared.ReadAnswer.{ReadAnswer}
 use Rattle.calls.specs.declared.ReadAnswer.the-variants as Read
+use Rattle.calls.specs.declared.NormalAnswer.{NormalAnswer}
 use Rattle.calls.specs.declared.NormalAnswer.the-variants as Normal
 use Rattle.calls.proofs.ReadLaws.{reading-long}
 
@@ -132,33 +133,36 @@ module _ (s ws ts vs us out : List ℕ) where
   unfolding read normal
   normal-refused r e {f} q = by-refusal f (roomFor (length ws) (length ts) (reading s)) (rw q at e)
 
--- what is written of the tree that was kept, or that it is too long
-module _ {s ws ts vs us : List ℕ} {n : ℕ} (k : Kept s ws ts vs us n) (few : n ≤ 28 * length s + 7) (out new : List ℕ) (r : Written) (does : WroteNormalWithin (take n vs) us longest out new r) where
-  abbrev t : List ℕ
-  t = normalText (k .grammar)
+-- what is written of a tree that is stored, or that it is too long
+module _ (s : List ℕ) {ws ts out new : List ℕ} (r : Written) (does : WroteNormalWithin ws ts longest out new r) (a : NormalAnswer) where
+  -- by whether the normal text is too long
+  module _ (k : Stored ws ts) (vs us : List ℕ) where
+    abbrev t : List ℕ
+    t = normalText (k .grammar)
 
-  w : WroteWithin longest t out new r
-  unfolding kept-stored
-  w = does (kept-stored k few)
+    abbrev Is : Type 0
+    Is = normalOutcome a (over (grammarWords (k .grammar)) vs) (over (grammarTexts (k .grammar)) us) new ≡ writeBy s vs us out (k .grammar)
 
-  normal-kept : normal s ws ts out ≡ writeBy s ws ts out (k .grammar)
-  unfolding normal normalBy
-  normal-kept = rw (k .is)
+    done-by : {m : ℕ} (b : Bool) → a ≡ Normal.Written m → r ≡ Bytes m → tooLong longest t out ≡ b → r ≡ (if b then TooLong else Bytes (length t))
+        → new ≡ (if b then out else t ++ drop (length t) out) → Is
+    unfolding writeBy
+    done-by true c q h e o = let z : _≡_ {A = ℕ} 0 1 = cc in absurd (omega arith)
+    done-by {m} false c q h e o = let l : m ≡ length t = cc in rw (c, h, l, o)
 
-  pub normal-written : {m : ℕ} → r ≡ Bytes m → NormalTo s ws ts out (Normal.Written m) vs us new
-  unfolding writeBy
-  normal-written {m} q = by-room (tooLong longest t out) refl (w .answer) (w .output)
-    where
-      by-room : (b : Bool) → tooLong longest t out ≡ b → r ≡ (if b then TooLong else Bytes (length t)) → new ≡ (if b then out else t ++ drop (length t) out)
-          → NormalTo s ws ts out (Normal.Written m) vs us new
-      by-room true h a o = let z : _≡_ {A = ℕ} 0 1 = cc in absurd (omega arith)
-      by-room false h a o = let e : m ≡ length t = cc in rw (normal-kept, writeBy, h, e, o, k .records, k .texts)
+    full-by : {f : declared.Refusal} (b : Bool) → a ≡ Normal.Refused f → refusalOf f ≡ refusalAt s outputFull 0 → r ≡ TooLong → tooLong longest t out ≡ b
+        → r ≡ (if b then TooLong else Bytes (length t)) → new ≡ (if b then out else t ++ drop (length t) out) → Is
+    unfolding writeBy
+    full-by true c i q h e o = rw (c, h, i, o)
+    full-by false c i q h e o = let z : _≡_ {A = ℕ} 0 1 = cc in absurd (omega arith)
 
-  pub normal-full : (f : declared.Refusal) → r ≡ TooLong → refusalOf f ≡ refusalAt s outputFull 0 → NormalTo s ws ts out (Normal.Refused f) vs us new
-  unfolding writeBy
-  normal-full f q i = by-room (tooLong longest t out) refl (w .answer) (w .output)
-    where
-      by-room : (b : Bool) → tooLong longest t out ≡ b → r ≡ (if b then TooLong else Bytes (length t)) → new ≡ (if b then out else t ++ drop (length t) out)
-          → NormalTo s ws ts out (Normal.Refused f) vs us new
-      by-room true h a o = rw (normal-kept, writeBy, h, i, o, k .records, k .texts)
-      by-room false h a o = let z : _≡_ {A = ℕ} 0 1 = cc in absurd (omega arith)
+  pub write-done : {m : ℕ} → a ≡ Normal.Written m → r ≡ Bytes m → WriteTo s ws ts out a new
+  write-done c q k vs us = done-by k vs us (tooLong longest (t k vs us) out) c q refl (does k .answer) (does k .output)
+
+  pub write-full : (f : declared.Refusal) → a ≡ Normal.Refused f → refusalOf f ≡ refusalAt s outputFull 0 → r ≡ TooLong → WriteTo s ws ts out a new
+  write-full f c i q k vs us = full-by k vs us (tooLong longest (t k vs us) out) c i q refl (does k .answer) (does k .output)
+
+-- of the tree that was kept it is the call's
+pub normal-kept : {s ws ts vs us : List ℕ} {n : ℕ} (k : Kept s ws ts vs us n) → n ≤ 28 * length s + 7 → (out new : List ℕ) (r : NormalAnswer)
+    → WriteTo s (take n vs) us out r new → NormalTo s ws ts out r vs us new
+unfolding normal normalBy kept-stored
+normal-kept {s} {ws} {ts} k few out new r w = rw (k .is, k .records, k .texts) (w (kept-stored k few) ws ts)

@@ -6,7 +6,9 @@ use mathlib.Core.List.{List}
 use lib.ListN.{length}
 use Rattle.error.specs.Promise.{refusalOf}
 use Rattle.grammar.specs.Calls as Calls
-use Rattle.grammar.specs.Calls.{ReadOutcome, read, NormalOutcome, normal, compare}
+use Rattle.grammar.specs.Calls.{over, ReadOutcome, read, NormalOutcome, writeBy, normal, compare}
+use Rattle.tree.specs.Stored.{grammarWords, grammarTexts}
+use Rattle.writer.specs.Promise.{Stored}
 use Rattle.calls.specs.declared.ReadAnswer.{ReadAnswer}
 use Rattle.calls.specs.declared.ReadAnswer.the-variants as Read
 use Rattle.calls.specs.declared.NormalAnswer.{NormalAnswer}
@@ -45,6 +47,12 @@ ReadTo s ws ts r vs us = readOutcome r vs us ≡ read s ws ts
 
 abbrev pub NormalTo : (text records texts output : List ℕ) → NormalAnswer → (recordsAfter textsAfter outputAfter : List ℕ) → Type 0
 NormalTo s ws ts out r vs us new = normalOutcome r vs us new ≡ normal s ws ts out
+
+-- what is written of a tree that is stored, whatever was lent to store it in
+abbrev pub WriteTo : (text records texts output : List ℕ) → NormalAnswer → (outputAfter : List ℕ) → Type 0
+WriteTo s ws ts out r new =
+    (k : Stored ws ts) (lentWords lentTexts : List ℕ)
+    → normalOutcome r (over (grammarWords (k .grammar)) lentWords) (over (grammarTexts (k .grammar)) lentTexts) new ≡ writeBy s lentWords lentTexts out (k .grammar)
 
 abbrev pub CompareTo : (leftRecords leftTexts rightRecords rightTexts : List ℕ) → CompareAnswer → Type 0
 CompareTo ls lts rs rts r = compareAnswer r ≡ compare ls lts rs rts

@@ -5,7 +5,8 @@ use error::Refusal;
 use reader::whole::Whole;
 use tree::Comparison;
 use writer::Written;
-ghost use Rattle.calls.specs.Promise.{ReadTo, Few, NormalTo, CompareTo};
+ghost use Rattle.writer.specs.Promise.{Stored};
+ghost use Rattle.calls.specs.Promise.{ReadTo, Few, WriteTo, NormalTo, CompareTo};
 
 // The most bytes that a text, or a normal text, may have.
 const LONGEST: usize = 65535;
@@ -45,6 +46,17 @@ pub fn read(text: &[u8], records: &mut [u32], texts: &mut [u8]) -> ReadAnswer
     }
 }
 
+// The normal text of a tree that is stored, over the front of the output, or 24 at the start of the text that it was read from.
+fn write(text: &[u8], records: &[u32], texts: &[u8], output: &mut [u8]) -> NormalAnswer
+    requires { ⌜ Stored (now records) (now texts) ⌝ }
+    ensures { λ r. ⌜ WriteTo (now (text .entry)) (now (records .entry)) (now (texts .entry)) (now (output .entry)) r (now (output .exit)) ⌝ }
+{
+    match writer::write_normal_text(records, texts, LONGEST, output) {
+        Written::TooLong => NormalAnswer::Refused(error::refuse(text, Cause::OutputFull, 0)),
+        Written::Bytes(m) => NormalAnswer::Written(m),
+    }
+}
+
 // The normal text of a text, over the front of the output; its tree is stored as `read` does. A refusal of the reading leaves all as it
 // was, one for want of output leaves the output as it was.
 pub fn normal_text(
@@ -57,15 +69,7 @@ pub fn normal_text(
 {
     match read(text, records, texts) {
         ReadAnswer::Refused(refusal) => NormalAnswer::Refused(refusal),
-        ReadAnswer::Stored(n, _) => match writer::write_normal_text(
-            &records[..n],
-            texts,
-            LONGEST,
-            output,
-        ) {
-            Written::TooLong => NormalAnswer::Refused(error::refuse(text, Cause::OutputFull, 0)),
-            Written::Bytes(m) => NormalAnswer::Written(m),
-        },
+        ReadAnswer::Stored(n, _) => write(text, &records[..n], texts, output),
     }
 }
 

@@ -27,14 +27,13 @@ module _ {t ys : List ℕ} {n : ℕ} (xs : List ℕ) (w : Wrote t (take 0 xs) ys
       let e : tooLong limit t xs ≡ true = rw (lt-ltb limit (length t) (omega arith)) in
       record { answer = rw e; output = rw e untouched }
 
-  pub over-output : {limit : ℕ} → length (ys ++ xs) < n → WroteWithin limit t xs (ys ++ xs) TooLong
+  pub over-output : {limit : ℕ} → length xs < n → WroteWithin limit t xs (ys ++ xs) TooLong
   over-output {limit} h =
       let c = w .counts in
-      let l = ap length untouched in
       let e : tooLong limit t xs ≡ true = rw (lt-ltb (length xs) (length t) (omega arith)) (or-true (ltb limit (length t))) in
       record { answer = rw e; output = rw e untouched }
 
-  pub within-both : {zs : List ℕ} {m limit : ℕ} → n ≤ limit → n ≤ length (ys ++ xs) → Wrote t (ys ++ xs) zs m → WroteWithin limit t xs zs (Bytes m)
+  pub within-both : {zs : List ℕ} {m limit : ℕ} → n ≤ limit → n ≤ length xs → Wrote t (ys ++ xs) zs m → WroteWithin limit t xs zs (Bytes m)
   within-both {limit = limit} h k v =
       let c = w .counts in
       let d = v .counts in

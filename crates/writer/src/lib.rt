@@ -777,11 +777,12 @@ pub fn write_normal_text(records: &[u32], texts: &[u8], limit: usize, out: &mut 
     requires { ⌜ Stored (now records) (now texts) ⌝ }
     ensures { λ r. ⌜ WroteNormalWithin (now (records .entry)) (now (texts .entry)) limit (now (out .entry)) (now (out .exit)) r ⌝ }
 {
+    let room = out.len();
     let n = normal_text(records, texts, &mut out[..0]);
     if limit < n {
         return Written::TooLong;
     }
-    if out.len() < n {
+    if room < n {
         return Written::TooLong;
     }
     Written::Bytes(normal_text(records, texts, out))

@@ -1,7 +1,6 @@
--- `calls::normal_text` meets its contract: what `read` stored is what the writer asks for, and what the writer answers is the outcome.
+-- `calls::normal_text` meets its contract: what `read` stored is what `write` asks for, and what it writes is the outcome.
 -- Assumes nothing.
-use Rattle.grammar.specs.Reading.{longest}
-use Rattle.calls.proofs.NormalLaws.{kept, kept-few, kept-inside, kept-part, kept-stored, normal-refused, normal-written, normal-full}
+use Rattle.calls.proofs.NormalLaws.{kept, kept-few, kept-inside, kept-part, kept-stored, normal-refused, normal-kept}
 use borrow.Author.Needs.{needs}
 use Rattle.calls.proofs.normal_text.Statement.{statement}
 use Rattle.calls.proofs.normal_text.Tie as tie
@@ -15,23 +14,17 @@ enum-known-refusal c = search needs
 enum-known-n : tie.Need-enum-known-n
 enum-known-n c = search needs
 
-slice-reshare-prefix-write-normal-text : tie.Need-slice-reshare-prefix-write-normal-text
-slice-reshare-prefix-write-normal-text c = kept-inside (kept _ _ _ _ _ (c .before .before .before .before .before .before .before .read .result) (c .before .before .before .before .before .before .before .read .ensures .0) (c .before .n .given .1))
+slice-reshare-prefix-write : tie.Need-slice-reshare-prefix-write
+slice-reshare-prefix-write c = kept-inside (kept _ _ _ _ _ (c .before .before .before .before .before .before .before .read .result) (c .before .before .before .before .before .before .before .read .ensures .0) (c .before .n .given .1))
 
-slice-aggregate-write-normal-text : tie.Need-slice-aggregate-write-normal-text
-slice-aggregate-write-normal-text c = kept-part (kept _ _ _ _ _ (c .before .before .before .before .before .before .before .before .read .result) (c .before .before .before .before .before .before .before .before .read .ensures .0) (c .before .before .n .given .1))
+slice-aggregate-write : tie.Need-slice-aggregate-write
+slice-aggregate-write c = kept-part (kept _ _ _ _ _ (c .before .before .before .before .before .before .before .before .read .result) (c .before .before .before .before .before .before .before .before .read .ensures .0) (c .before .before .n .given .1))
 
-write-normal-text-requires : tie.Need-write-normal-text-requires
-write-normal-text-requires c κs = kept-stored (kept _ _ _ _ _ (c .before .before .before .before .before .before .before .before .before .before .read .result) (c .before .before .before .before .before .before .before .before .before .before .read .ensures .0) (c .before .before .before .before .n .given .1)) (kept-few _ _ _ _ _ (c .before .before .before .before .before .before .before .before .before .before .read .result) (c .before .before .before .before .before .before .before .before .before .before .read .ensures .0) (c .before .before .before .before .n .given .1) (c .before .before .before .before .before .before .before .before .before .before .read .ensures .1))
-
-enum-told : tie.Need-enum-told
-enum-told c = search needs
-
-refuse-requires : tie.Need-refuse-requires
-refuse-requires c κs = search needs
-
-enum-known-m : tie.Need-enum-known-m
-enum-known-m c = search needs
+write-requires : tie.Need-write-requires
+write-requires c κs =
+    let r = c .before .before .before .before .before .before .before .before .before .before .read in
+    let q = c .before .before .before .before .n .given .1 in
+    kept-stored (kept _ _ _ _ _ (r .result) (r .ensures .0) q) (kept-few _ _ _ _ _ (r .result) (r .ensures .0) q (r .ensures .1))
 
 same-length : tie.Need-same-length
 same-length c = search needs
@@ -52,25 +45,10 @@ same-length-5 : tie.Need-same-length-5
 same-length-5 c = search needs
 
 returns-2 : tie.Need-returns-2
-unfolding longest
 returns-2 c =
-    let k = kept _ _ _ _ _ (c .before .before .before .before .before .before .before .before .before .before .before .before .before .before .before .before .read .result) (c .before .before .before .before .before .before .before .before .before .before .before .before .before .before .before .before .read .ensures .0) (c .before .before .before .before .before .before .before .before .before .before .n .given .1) in
-    normal-full k (kept-few _ _ _ _ _ (c .before .before .before .before .before .before .before .before .before .before .before .before .before .before .before .before .read .result) (c .before .before .before .before .before .before .before .before .before .before .before .before .before .before .before .before .read .ensures .0) (c .before .before .before .before .before .before .before .before .before .before .n .given .1) (c .before .before .before .before .before .before .before .before .before .before .before .before .before .before .before .before .read .ensures .1)) _ _ (c .before .before .before .before .before .write-normal-text .result) (c .before .before .before .before .before .write-normal-text .ensures) (c .refuse .result) (c .before .enum-told .given .1) (c .refuse .ensures)
-
-same-length-6 : tie.Need-same-length-6
-same-length-6 c = search needs
-
-same-length-7 : tie.Need-same-length-7
-same-length-7 c = search needs
-
-same-length-8 : tie.Need-same-length-8
-same-length-8 c = search needs
-
-returns-3 : tie.Need-returns-3
-unfolding longest
-returns-3 c =
-    let k = kept _ _ _ _ _ (c .before .before .before .before .before .before .before .before .before .before .before .before .before .before .before .before .read .result) (c .before .before .before .before .before .before .before .before .before .before .before .before .before .before .before .before .read .ensures .0) (c .before .before .before .before .before .before .before .before .before .before .n .given .1) in
-    normal-written k (kept-few _ _ _ _ _ (c .before .before .before .before .before .before .before .before .before .before .before .before .before .before .before .before .read .result) (c .before .before .before .before .before .before .before .before .before .before .before .before .before .before .before .before .read .ensures .0) (c .before .before .before .before .before .before .before .before .before .before .n .given .1) (c .before .before .before .before .before .before .before .before .before .before .before .before .before .before .before .before .read .ensures .1)) _ _ (c .before .before .before .before .before .write-normal-text .result) (c .before .before .before .before .before .write-normal-text .ensures) (c .before .m .given .1)
+    let r = c .before .before .before .before .before .before .before .before .before .before .before .before .before .read in
+    let q = c .before .before .before .before .before .before .before .n .given .1 in
+    normal-kept (kept _ _ _ _ _ (r .result) (r .ensures .0) q) (kept-few _ _ _ _ _ (r .result) (r .ensures .0) q (r .ensures .1)) _ _ (c .before .before .write .result) (c .before .before .write .ensures)
 
 pub normal-text-spec : {M : Type 1} → statement M
 normal-text-spec =
@@ -79,20 +57,13 @@ normal-text-spec =
     read-requires
     enum-known-refusal
     enum-known-n
-    slice-reshare-prefix-write-normal-text
-    slice-aggregate-write-normal-text
-    write-normal-text-requires
-    enum-told
-    refuse-requires
-    enum-known-m
+    slice-reshare-prefix-write
+    slice-aggregate-write
+    write-requires
     same-length
     same-length-2
     returns
     same-length-3
     same-length-4
     same-length-5
-    returns-2
-    same-length-6
-    same-length-7
-    same-length-8
-    returns-3)
+    returns-2)
