@@ -39,7 +39,7 @@ use Rattle.parser.proofs.Onward.{if-true, onward-then, onward-least, next-onwar
 use Rattle.parser.proofs.Lists.{flat-none, flat-more, lays-then, lays-between}
 use Rattle.parser.proofs.Ready.{ready-step, ready-on, put-plain-asks, lists-small, name-got, lays-leaf, lays-parent, arrived-at, taken-at, nodes-leaf, nodes-over}
 use Rattle.tree.specs.declared.PrecKind.{PrecKind as DeclaredPrec}
-use Rattle.declarations.specs.Promise.{conflictPair, PrecGot, TakesPrec, precedenceBranch}
+use Rattle.declarations.specs.Promise.{precTakenCause, precTakenPlace, conflictPair, PrecGot, TakesPrec, precedenceBranch}
 use Rattle.declarations.specs.declared.blocks.PrecTaken.{PrecTaken}
 use Rattle.declarations.specs.declared.blocks.PrecTaken.the-variants.{Got, Refused as Not}
 
@@ -327,6 +327,10 @@ module _ (s : List ℕ) (w : Quoted) where
     word-not {c} {o} q = let k : EatsAt s t (letters w) (E.Refused c o) = rw q at h in k .eats w refl p
 
 -- ------------------------------------------------------------------ the kind of a precedence
+
+-- a refusal is the one with the cause and the place that it says
+pub prec-told : {c d : Cause} {p q : ℕ} {r : PrecTaken} → r ≡ Not c p → d ≡ precTakenCause r → q ≡ precTakenPlace r → r ≡ Not d q
+prec-told e f g = rw (f, g, e)
 
 module _ (ts : Tokens ℕ) where
   pub left-not : {c p : ℕ} → eatAt "left" ts ≡ refused c p → parsePrecKind ts ≡ refused c p

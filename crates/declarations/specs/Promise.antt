@@ -5,6 +5,8 @@ use mathlib.Core.Path.{_≡_}
 use mathlib.Core.List.{List, [], _∷_}
 use mathlib.Core.Option.{Option}
 use Rattle.error.specs.Causes.{badConflict}
+use Rattle.error.specs.declared.Cause.{Cause}
+use Rattle.error.specs.declared.Cause.the-variants.{UnexpectedToken}
 use Rattle.error.specs.Promise.{causeNumber}
 use Rattle.lexer.specs.Promise.{partOf}
 use Rattle.lexer.specs.Escapes.{decodeString}
@@ -41,6 +43,15 @@ pub record PrecGot (s : List ℕ) (t : Current) (k : Option PrecKind) (u : Curre
 abbrev pub TakesPrec : List ℕ → Current → PrecTaken → Type 0
 TakesPrec s t (Got k u) = PrecGot s t (precOf k) u
 TakesPrec s t (Refused c p) = parsePrecKind (stream s t) ≡ refused (causeNumber c) p
+
+-- what a refusal says
+abbrev pub precTakenCause : PrecTaken → Cause
+precTakenCause (Refused c p) = c
+precTakenCause (Got k u) = UnexpectedToken
+
+abbrev pub precTakenPlace : PrecTaken → ℕ
+precTakenPlace (Refused c p) = p
+precTakenPlace (Got k u) = 0
 
 abbrev pub precedenceBranch : PrecDeclaration ℕ → Branch
 precedenceBranch x = declarationBranch (Declaration.precedences x)

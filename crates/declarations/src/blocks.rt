@@ -12,6 +12,7 @@ use tokens::Current;
 use tokens::Eaten;
 use tokens::Taken;
 use tree::PrecKind;
+ghost use mathlib.Core.Path.{_≡_};
 ghost use Prim.Native.Nat.{_+_};
 ghost use Rattle.tokens.specs.Promise.{stream, LiesIn};
 ghost use Rattle.parser.specs.Storing.{lent, nodesOf};
@@ -21,12 +22,33 @@ ghost use Rattle.error.specs.Causes.{badPrecedence};
 ghost use Rattle.tree.specs.Stored.{referenceBranch, tokenPrecBranch, tokenConflictBranch, precItemBranch};
 ghost use Rattle.notation.specs.Parser.{eat, until, commaOrNot};
 ghost use Rattle.notation.specs.Declarations.{parseTokenReference, parseTokenPrecedence, parseTokenConflict, parsePrecItem, parsePrecedence};
-ghost use Rattle.declarations.specs.Promise.{TakesPrec, precedenceBranch, conflictPair};
+ghost use Rattle.declarations.specs.Promise.{precTakenCause, precTakenPlace, TakesPrec, precedenceBranch, conflictPair};
 
 // The kind of a precedence, and the token after it.
 pub enum PrecTaken {
     Got(PrecKind, Current),
     Refused(Cause, usize),
+}
+
+// What an answer that is a refusal says, as of the tokens' answers.
+impl PrecTaken {
+    pub fn cause(self) -> Cause
+        ensures { λ r. ⌜ r ≡ precTakenCause self ⌝ }
+    {
+        match self {
+            PrecTaken::Got(_, _) => Cause::UnexpectedToken,
+            PrecTaken::Refused(cause, _) => cause,
+        }
+    }
+
+    pub fn place(self) -> usize
+        ensures { λ r. ⌜ r ≡ precTakenPlace self ⌝ }
+    {
+        match self {
+            PrecTaken::Got(_, _) => 0,
+            PrecTaken::Refused(_, at) => at,
+        }
+    }
 }
 
 // References up to their brace.
@@ -54,25 +76,24 @@ fn references_list(
             Opened::Refused(cause, at) => {
                 return Listed::Refused(cause, at);
             }
-            Opened::Item(u) => match rules::parse_token_reference(
-                source,
-                u,
-                Cause::BadPrecedence,
-                records,
-                m,
-                texts,
-                y,
-            ) {
-                Parsed::Refused(cause, at) => {
-                    return Listed::Refused(cause, at);
-                }
-                Parsed::Done(v, k, z) => {
-                    t = v;
-                    m = k;
-                    y = z;
-                    count += 1;
-                }
-            },
+            Opened::Item(u) => {
+                let parsed = rules::parse_token_reference(
+                    source,
+                    u,
+                    Cause::BadPrecedence,
+                    records,
+                    m,
+                    texts,
+                    y,
+                );
+                let Parsed::Done(v, k, z) = parsed else {
+                    return Listed::Refused(parsed.cause(), parsed.place());
+                };
+                t = v;
+                m = k;
+                y = z;
+                count += 1;
+            }
         }
     }
 }
@@ -90,19 +111,20 @@ pub fn parse_token_precedence(
     ensures { λ r. ⌜ Parses (parseTokenPrecedence (stream (now (source .entry)) token)) (nodesOf tokenPrecBranch) (now (source .entry)) token
         (lent n (now (records .entry)) x (now (texts .entry))) (now (records .exit)) (now (texts .exit)) r ⌝ }
 {
-    match tokens::next(source, token) {
-        Arrived::Refused(cause, at) => Parsed::Refused(cause, at),
-        Arrived::At(u) => match tokens::expect_punctuation(source, u, 0x7B) {
-            Arrived::Refused(cause, at) => Parsed::Refused(cause, at),
-            Arrived::At(v) => match references_list(source, v, records, n, texts, x) {
-                Listed::Refused(cause, at) => Parsed::Refused(cause, at),
-                Listed::Done(w, m, y, count) => {
-                    let k = store::put_plain(records, m, 9, tokens::start(token), 0, count);
-                    Parsed::Done(w, k, y)
-                }
-            },
-        },
-    }
+    let arrived = tokens::next(source, token);
+    let Arrived::At(u) = arrived else {
+        return Parsed::Refused(arrived.cause(), arrived.place());
+    };
+    let opened = tokens::expect_punctuation(source, u, 0x7B);
+    let Arrived::At(v) = opened else {
+        return Parsed::Refused(opened.cause(), opened.place());
+    };
+    let listed = references_list(source, v, records, n, texts, x);
+    let Listed::Done(w, m, y, count) = listed else {
+        return Parsed::Refused(listed.cause(), listed.place());
+    };
+    let k = store::put_plain(records, m, 9, tokens::start(token), 0, count);
+    Parsed::Done(w, k, y)
 }
 
 // `@conflict` in a token block, after its brace: two references.
@@ -118,27 +140,23 @@ fn conflict_pair(
     ensures { λ r. ⌜ ParsesList (conflictPair (stream (now (source .entry)) token)) (nodesOf referenceBranch) (now (source .entry)) token 2
         (lent n (now (records .entry)) x (now (texts .entry))) (now (records .exit)) (now (texts .exit)) r ⌝ }
 {
-    match rules::parse_token_reference(source, token, Cause::BadConflict, records, n, texts, x) {
-        Parsed::Refused(cause, at) => Listed::Refused(cause, at),
-        Parsed::Done(u, m, y) => match props::between(source, u, Comma::May) {
-            Arrived::Refused(cause, at) => Listed::Refused(cause, at),
-            Arrived::At(v) => match rules::parse_token_reference(
-                source,
-                v,
-                Cause::BadConflict,
-                records,
-                m,
-                texts,
-                y,
-            ) {
-                Parsed::Refused(cause, at) => Listed::Refused(cause, at),
-                Parsed::Done(w, k, z) => match tokens::expect_punctuation(source, w, 0x7D) {
-                    Arrived::Refused(cause, at) => Listed::Refused(cause, at),
-                    Arrived::At(t) => Listed::Done(t, k, z, 2),
-                },
-            },
-        },
-    }
+    let one = rules::parse_token_reference(source, token, Cause::BadConflict, records, n, texts, x);
+    let Parsed::Done(u, m, y) = one else {
+        return Listed::Refused(one.cause(), one.place());
+    };
+    let arrived = props::between(source, u, Comma::May);
+    let Arrived::At(v) = arrived else {
+        return Listed::Refused(arrived.cause(), arrived.place());
+    };
+    let two = rules::parse_token_reference(source, v, Cause::BadConflict, records, m, texts, y);
+    let Parsed::Done(w, k, z) = two else {
+        return Listed::Refused(two.cause(), two.place());
+    };
+    let closed = tokens::expect_punctuation(source, w, 0x7D);
+    let Arrived::At(t) = closed else {
+        return Listed::Refused(closed.cause(), closed.place());
+    };
+    Listed::Done(t, k, z, 2)
 }
 
 // `@conflict` in a token block, at its keyword.
@@ -154,19 +172,20 @@ pub fn parse_token_conflict(
     ensures { λ r. ⌜ Parses (parseTokenConflict (stream (now (source .entry)) token)) (nodesOf tokenConflictBranch) (now (source .entry)) token
         (lent n (now (records .entry)) x (now (texts .entry))) (now (records .exit)) (now (texts .exit)) r ⌝ }
 {
-    match tokens::next(source, token) {
-        Arrived::Refused(cause, at) => Parsed::Refused(cause, at),
-        Arrived::At(u) => match tokens::expect_punctuation(source, u, 0x7B) {
-            Arrived::Refused(cause, at) => Parsed::Refused(cause, at),
-            Arrived::At(v) => match conflict_pair(source, v, records, n, texts, x) {
-                Listed::Refused(cause, at) => Parsed::Refused(cause, at),
-                Listed::Done(w, m, y, count) => {
-                    let k = store::put_plain(records, m, 10, tokens::start(token), 0, count);
-                    Parsed::Done(w, k, y)
-                }
-            },
-        },
-    }
+    let arrived = tokens::next(source, token);
+    let Arrived::At(u) = arrived else {
+        return Parsed::Refused(arrived.cause(), arrived.place());
+    };
+    let opened = tokens::expect_punctuation(source, u, 0x7B);
+    let Arrived::At(v) = opened else {
+        return Parsed::Refused(opened.cause(), opened.place());
+    };
+    let pair = conflict_pair(source, v, records, n, texts, x);
+    let Listed::Done(w, m, y, count) = pair else {
+        return Parsed::Refused(pair.cause(), pair.place());
+    };
+    let k = store::put_plain(records, m, 10, tokens::start(token), 0, count);
+    Parsed::Done(w, k, y)
 }
 
 // `@left`, `@right`, `@cut` or nothing.
@@ -201,26 +220,26 @@ fn parse_prec_item(
     ensures { λ r. ⌜ Parses (parsePrecItem (stream (now (source .entry)) token)) (nodesOf precItemBranch) (now (source .entry)) token
         (lent n (now (records .entry)) x (now (texts .entry))) (now (records .exit)) (now (texts .exit)) r ⌝ }
 {
-    match tokens::parse_identifier(source, token) {
-        Taken::Refused(cause, at) => Parsed::Refused(cause, at),
-        Taken::Got(a, e, u) => match parse_prec_kind(source, u) {
-            PrecTaken::Refused(cause, at) => Parsed::Refused(cause, at),
-            PrecTaken::Got(kind, v) => {
-                let put = store::put_named(
-                    &source[a..e],
-                    21,
-                    tokens::start(token),
-                    tree::prec_value(kind),
-                    0,
-                    records,
-                    n,
-                    texts,
-                    x,
-                );
-                Parsed::Done(v, put.n, put.x)
-            }
-        },
-    }
+    let taken = tokens::parse_identifier(source, token);
+    let Taken::Got(a, e, u) = taken else {
+        return Parsed::Refused(taken.cause(), taken.place());
+    };
+    let ranked = parse_prec_kind(source, u);
+    let PrecTaken::Got(kind, v) = ranked else {
+        return Parsed::Refused(ranked.cause(), ranked.place());
+    };
+    let put = store::put_named(
+        &source[a..e],
+        21,
+        tokens::start(token),
+        tree::prec_value(kind),
+        0,
+        records,
+        n,
+        texts,
+        x,
+    );
+    Parsed::Done(v, put.n, put.x)
 }
 
 // Items up to their brace.
@@ -248,17 +267,16 @@ fn prec_items_list(
             Opened::Refused(cause, at) => {
                 return Listed::Refused(cause, at);
             }
-            Opened::Item(u) => match parse_prec_item(source, u, records, m, texts, y) {
-                Parsed::Refused(cause, at) => {
-                    return Listed::Refused(cause, at);
-                }
-                Parsed::Done(v, k, z) => {
-                    t = v;
-                    m = k;
-                    y = z;
-                    count += 1;
-                }
-            },
+            Opened::Item(u) => {
+                let parsed = parse_prec_item(source, u, records, m, texts, y);
+                let Parsed::Done(v, k, z) = parsed else {
+                    return Listed::Refused(parsed.cause(), parsed.place());
+                };
+                t = v;
+                m = k;
+                y = z;
+                count += 1;
+            }
         }
     }
 }
@@ -276,17 +294,18 @@ pub fn parse_precedence(
     ensures { λ r. ⌜ Parses (parsePrecedence (stream (now (source .entry)) token)) (nodesOf precedenceBranch) (now (source .entry)) token
         (lent n (now (records .entry)) x (now (texts .entry))) (now (records .exit)) (now (texts .exit)) r ⌝ }
 {
-    match tokens::next(source, token) {
-        Arrived::Refused(cause, at) => Parsed::Refused(cause, at),
-        Arrived::At(u) => match tokens::expect_punctuation(source, u, 0x7B) {
-            Arrived::Refused(cause, at) => Parsed::Refused(cause, at),
-            Arrived::At(v) => match prec_items_list(source, v, records, n, texts, x) {
-                Listed::Refused(cause, at) => Parsed::Refused(cause, at),
-                Listed::Done(w, m, y, count) => {
-                    let k = store::put_plain(records, m, 20, tokens::start(token), 0, count);
-                    Parsed::Done(w, k, y)
-                }
-            },
-        },
-    }
+    let arrived = tokens::next(source, token);
+    let Arrived::At(u) = arrived else {
+        return Parsed::Refused(arrived.cause(), arrived.place());
+    };
+    let opened = tokens::expect_punctuation(source, u, 0x7B);
+    let Arrived::At(v) = opened else {
+        return Parsed::Refused(opened.cause(), opened.place());
+    };
+    let listed = prec_items_list(source, v, records, n, texts, x);
+    let Listed::Done(w, m, y, count) = listed else {
+        return Parsed::Refused(listed.cause(), listed.place());
+    };
+    let k = store::put_plain(records, m, 20, tokens::start(token), 0, count);
+    Parsed::Done(w, k, y)
 }

@@ -42,27 +42,27 @@ pub fn parse_from(
     ensures { λ r. ⌜ Parses (fromSource (stream (now (source .entry)) token)) (nodesOf (fromBranch kind start)) (now (source .entry)) token
         (lent n (now (records .entry)) x (now (texts .entry))) (now (records .exit)) (now (texts .exit)) r ⌝ }
 {
-    match tokens::parse_identifier(source, token) {
-        Taken::Refused(cause, at) => Parsed::Refused(cause, at),
-        Taken::Got(a, e, u) => match parse_source(source, u) {
-            Taken::Refused(cause, at) => Parsed::Refused(cause, at),
-            Taken::Got(b, f, v) => {
-                let from = store::put_string(&source[b..f], 15, 0, 0, records, n, texts, x);
-                let put = store::put_named(
-                    &source[a..e],
-                    kind,
-                    start,
-                    0,
-                    1,
-                    records,
-                    from.n,
-                    texts,
-                    from.x,
-                );
-                Parsed::Done(v, put.n, put.x)
-            }
-        },
-    }
+    let taken = tokens::parse_identifier(source, token);
+    let Taken::Got(a, e, u) = taken else {
+        return Parsed::Refused(taken.cause(), taken.place());
+    };
+    let sourced = parse_source(source, u);
+    let Taken::Got(b, f, v) = sourced else {
+        return Parsed::Refused(sourced.cause(), sourced.place());
+    };
+    let from = store::put_string(&source[b..f], 15, 0, 0, records, n, texts, x);
+    let put = store::put_named(
+        &source[a..e],
+        kind,
+        start,
+        0,
+        1,
+        records,
+        from.n,
+        texts,
+        from.x,
+    );
+    Parsed::Done(v, put.n, put.x)
 }
 
 // The name after `as`, or else the name before.
@@ -91,48 +91,40 @@ pub fn parse_external_prop(
     ensures { λ r. ⌜ Parses (parseExternalProp start (stream (now (source .entry)) token)) (nodesOf externalPropBranch) (now (source .entry)) token
         (lent n (now (records .entry)) x (now (texts .entry))) (now (records .exit)) (now (texts .exit)) r ⌝ }
 {
-    match tokens::parse_identifier(source, token) {
-        Taken::Refused(cause, at) => Parsed::Refused(cause, at),
-        Taken::Got(a, e, u) => match parse_as(source, u, a, e) {
-            Taken::Refused(cause, at) => Parsed::Refused(cause, at),
-            Taken::Got(b, f, v) => match parse_source(source, v) {
-                Taken::Refused(cause, at) => Parsed::Refused(cause, at),
-                Taken::Got(c, g, w) => {
-                    let name = store::put_named(
-                        &source[a..e],
-                        26,
-                        tokens::start(token),
-                        0,
-                        0,
-                        records,
-                        n,
-                        texts,
-                        x,
-                    );
-                    let from = store::put_string(
-                        &source[c..g],
-                        15,
-                        0,
-                        0,
-                        records,
-                        name.n,
-                        texts,
-                        name.x,
-                    );
-                    let put = store::put_named(
-                        &source[b..f],
-                        25,
-                        start,
-                        0,
-                        2,
-                        records,
-                        from.n,
-                        texts,
-                        from.x,
-                    );
-                    Parsed::Done(w, put.n, put.x)
-                }
-            },
-        },
-    }
+    let taken = tokens::parse_identifier(source, token);
+    let Taken::Got(a, e, u) = taken else {
+        return Parsed::Refused(taken.cause(), taken.place());
+    };
+    let known = parse_as(source, u, a, e);
+    let Taken::Got(b, f, v) = known else {
+        return Parsed::Refused(known.cause(), known.place());
+    };
+    let sourced = parse_source(source, v);
+    let Taken::Got(c, g, w) = sourced else {
+        return Parsed::Refused(sourced.cause(), sourced.place());
+    };
+    let name = store::put_named(
+        &source[a..e],
+        26,
+        tokens::start(token),
+        0,
+        0,
+        records,
+        n,
+        texts,
+        x,
+    );
+    let from = store::put_string(&source[c..g], 15, 0, 0, records, name.n, texts, name.x);
+    let put = store::put_named(
+        &source[b..f],
+        25,
+        start,
+        0,
+        2,
+        records,
+        from.n,
+        texts,
+        from.x,
+    );
+    Parsed::Done(w, put.n, put.x)
 }

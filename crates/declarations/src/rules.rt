@@ -44,37 +44,30 @@ pub fn parse_rule(
     ensures { λ r. ⌜ Parses (parseRule (stream (now (source .entry)) token)) (nodesOf (ruleBranch kind)) (now (source .entry)) token
         (lent n (now (records .entry)) x (now (texts .entry))) (now (records .exit)) (now (texts .exit)) r ⌝ }
 {
-    match tokens::parse_identifier(source, token) {
-        Taken::Refused(cause, at) => Parsed::Refused(cause, at),
-        Taken::Got(a, e, u) => match parts::rule_head(source, u, records, n, texts, x) {
-            Headed::Refused(cause, at) => Parsed::Refused(cause, at),
-            Headed::Done(v, m, y, count, params) => match expressions::braced(
-                source,
-                LEVELS,
-                v,
-                records,
-                m,
-                texts,
-                y,
-            ) {
-                Expressed::Refused(cause, at) => Parsed::Refused(cause, at),
-                Expressed::Done(w, k, z, _, _) => {
-                    let put = store::put_named(
-                        &source[a..e],
-                        kind,
-                        tokens::start(token),
-                        0,
-                        count + params + 1,
-                        records,
-                        k,
-                        texts,
-                        z,
-                    );
-                    Parsed::Done(w, put.n, put.x)
-                }
-            },
-        },
-    }
+    let taken = tokens::parse_identifier(source, token);
+    let Taken::Got(a, e, u) = taken else {
+        return Parsed::Refused(taken.cause(), taken.place());
+    };
+    let head = parts::rule_head(source, u, records, n, texts, x);
+    let Headed::Done(v, m, y, count, params) = head else {
+        return Parsed::Refused(head.cause(), head.place());
+    };
+    let body = expressions::braced(source, LEVELS, v, records, m, texts, y);
+    let Expressed::Done(w, k, z, _, _) = body else {
+        return Parsed::Refused(body.cause(), body.place());
+    };
+    let put = store::put_named(
+        &source[a..e],
+        kind,
+        tokens::start(token),
+        0,
+        count + params + 1,
+        records,
+        k,
+        texts,
+        z,
+    );
+    Parsed::Done(w, put.n, put.x)
 }
 
 // A name or a literal, or else a cause. It stands in no rule's body: its first bracket is level 1.
@@ -91,15 +84,16 @@ pub fn parse_token_reference(
     ensures { λ r. ⌜ Parses (parseTokenReference (causeNumber cause) (stream (now (source .entry)) token)) (nodesOf referenceBranch) (now (source .entry)) token
         (lent n (now (records .entry)) x (now (texts .entry))) (now (records .exit)) (now (texts .exit)) r ⌝ }
 {
-    match expressions::parse_inner(source, LEVELS, token, records, n, texts, x) {
-        Expressed::Refused(c, at) => Parsed::Refused(c, at),
-        Expressed::Done(u, m, y, p, shape) => match shape {
-            Shape::Name => Parsed::Done(u, m, y),
-            Shape::Literal(_, _) => Parsed::Done(u, m, y),
-            Shape::Repeat(_) => Parsed::Refused(cause, p),
-            Shape::Blank => Parsed::Refused(cause, p),
-            Shape::Other => Parsed::Refused(cause, p),
-        },
+    let inner = expressions::parse_inner(source, LEVELS, token, records, n, texts, x);
+    let Expressed::Done(u, m, y, p, shape) = inner else {
+        return Parsed::Refused(inner.cause(), inner.place());
+    };
+    match shape {
+        Shape::Name => Parsed::Done(u, m, y),
+        Shape::Literal(_, _) => Parsed::Done(u, m, y),
+        Shape::Repeat(_) => Parsed::Refused(cause, p),
+        Shape::Blank => Parsed::Refused(cause, p),
+        Shape::Other => Parsed::Refused(cause, p),
     }
 }
 
@@ -117,23 +111,22 @@ pub fn parse_name(
     ensures { λ r. ⌜ Parses (parseIdentifier (stream (now (source .entry)) token)) (nodesOf (nameBranch kind)) (now (source .entry)) token
         (lent n (now (records .entry)) x (now (texts .entry))) (now (records .exit)) (now (texts .exit)) r ⌝ }
 {
-    match tokens::parse_identifier(source, token) {
-        Taken::Refused(cause, at) => Parsed::Refused(cause, at),
-        Taken::Got(a, e, u) => {
-            let put = store::put_named(
-                &source[a..e],
-                kind,
-                tokens::start(token),
-                0,
-                0,
-                records,
-                n,
-                texts,
-                x,
-            );
-            Parsed::Done(u, put.n, put.x)
-        }
-    }
+    let taken = tokens::parse_identifier(source, token);
+    let Taken::Got(a, e, u) = taken else {
+        return Parsed::Refused(taken.cause(), taken.place());
+    };
+    let put = store::put_named(
+        &source[a..e],
+        kind,
+        tokens::start(token),
+        0,
+        0,
+        records,
+        n,
+        texts,
+        x,
+    );
+    Parsed::Done(u, put.n, put.x)
 }
 
 // Names up to their brace, commas between them or not.
@@ -162,17 +155,16 @@ fn names_list(
             Opened::Refused(cause, at) => {
                 return Listed::Refused(cause, at);
             }
-            Opened::Item(u) => match parse_name(source, u, kind, records, m, texts, y) {
-                Parsed::Refused(cause, at) => {
-                    return Listed::Refused(cause, at);
-                }
-                Parsed::Done(v, k, z) => {
-                    t = v;
-                    m = k;
-                    y = z;
-                    count += 1;
-                }
-            },
+            Opened::Item(u) => {
+                let parsed = parse_name(source, u, kind, records, m, texts, y);
+                let Parsed::Done(v, k, z) = parsed else {
+                    return Listed::Refused(parsed.cause(), parsed.place());
+                };
+                t = v;
+                m = k;
+                y = z;
+                count += 1;
+            }
         }
     }
 }
@@ -191,10 +183,11 @@ pub fn parse_names(
     ensures { λ r. ⌜ ParsesList (names (stream (now (source .entry)) token)) (nodesOf (nameBranch kind)) (now (source .entry)) token 2
         (lent n (now (records .entry)) x (now (texts .entry))) (now (records .exit)) (now (texts .exit)) r ⌝ }
 {
-    match tokens::expect_punctuation(source, token, 0x7B) {
-        Arrived::Refused(cause, at) => Listed::Refused(cause, at),
-        Arrived::At(u) => names_list(source, u, kind, records, n, texts, x),
-    }
+    let opened = tokens::expect_punctuation(source, token, 0x7B);
+    let Arrived::At(u) = opened else {
+        return Listed::Refused(opened.cause(), opened.place());
+    };
+    names_list(source, u, kind, records, n, texts, x)
 }
 
 // A name with its props.
@@ -210,26 +203,26 @@ pub fn parse_named_node(
     ensures { λ r. ⌜ Parses (parseNamedNode (stream (now (source .entry)) token)) (nodesOf namedNodeBranch) (now (source .entry)) token
         (lent n (now (records .entry)) x (now (texts .entry))) (now (records .exit)) (now (texts .exit)) r ⌝ }
 {
-    match tokens::parse_identifier(source, token) {
-        Taken::Refused(cause, at) => Parsed::Refused(cause, at),
-        Taken::Got(a, e, u) => match props::parse_props(source, u, records, n, texts, x) {
-            Listed::Refused(cause, at) => Parsed::Refused(cause, at),
-            Listed::Done(v, m, y, count) => {
-                let put = store::put_named(
-                    &source[a..e],
-                    13,
-                    tokens::start(token),
-                    0,
-                    count,
-                    records,
-                    m,
-                    texts,
-                    y,
-                );
-                Parsed::Done(v, put.n, put.x)
-            }
-        },
-    }
+    let taken = tokens::parse_identifier(source, token);
+    let Taken::Got(a, e, u) = taken else {
+        return Parsed::Refused(taken.cause(), taken.place());
+    };
+    let listed = props::parse_props(source, u, records, n, texts, x);
+    let Listed::Done(v, m, y, count) = listed else {
+        return Parsed::Refused(listed.cause(), listed.place());
+    };
+    let put = store::put_named(
+        &source[a..e],
+        13,
+        tokens::start(token),
+        0,
+        count,
+        records,
+        m,
+        texts,
+        y,
+    );
+    Parsed::Done(v, put.n, put.x)
 }
 
 // A literal with its props, at its token.
@@ -247,23 +240,23 @@ pub fn parse_literal(
     ensures { λ r. ⌜ Parses (literalAt (now (source .entry)) a e (stream (now (source .entry)) token)) (nodesOf literalBranch) (now (source .entry)) token
         (lent n (now (records .entry)) x (now (texts .entry))) (now (records .exit)) (now (texts .exit)) r ⌝ }
 {
-    match tokens::next(source, token) {
-        Arrived::Refused(cause, at) => Parsed::Refused(cause, at),
-        Arrived::At(u) => match props::parse_props(source, u, records, n, texts, x) {
-            Listed::Refused(cause, at) => Parsed::Refused(cause, at),
-            Listed::Done(v, m, y, count) => {
-                let put = store::put_string(
-                    &source[a..e],
-                    11,
-                    tokens::start(token),
-                    count,
-                    records,
-                    m,
-                    texts,
-                    y,
-                );
-                Parsed::Done(v, put.n, put.x)
-            }
-        },
-    }
+    let arrived = tokens::next(source, token);
+    let Arrived::At(u) = arrived else {
+        return Parsed::Refused(arrived.cause(), arrived.place());
+    };
+    let listed = props::parse_props(source, u, records, n, texts, x);
+    let Listed::Done(v, m, y, count) = listed else {
+        return Parsed::Refused(listed.cause(), listed.place());
+    };
+    let put = store::put_string(
+        &source[a..e],
+        11,
+        tokens::start(token),
+        count,
+        records,
+        m,
+        texts,
+        y,
+    );
+    Parsed::Done(v, put.n, put.x)
 }

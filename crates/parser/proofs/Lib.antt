@@ -17,3 +17,4 @@ pub mod Yielded
 pub mod Marks
 pub mod Itemizing
 pub mod InnerLaws
+pub mod Told

@@ -8,6 +8,8 @@ use mathlib.Core.Option.{Option, none, some}
 use lib.ListN.{length}
 use Rattle.basics.specs.Basics.{if_then_else_, letters, is, among, spells}
 use Rattle.error.specs.Causes.{onePart}
+use Rattle.error.specs.declared.Cause.{Cause}
+use Rattle.error.specs.declared.Cause.the-variants.{UnexpectedToken}
 use Rattle.error.specs.Promise.{causeNumber}
 use Rattle.characters.specs.Utf8.{encodeAll}
 use Rattle.characters.specs.Places.{cut}
@@ -54,6 +56,39 @@ use Rattle.parser.specs.declared.parts.ItemsRead.{ItemsRead}
 use Rattle.parser.specs.declared.parts.ItemsRead.the-variants as J
 use Rattle.parser.specs.declared.parts.Headed.{Headed}
 use Rattle.parser.specs.declared.parts.Headed.the-variants as H
+
+-- what a refusal says
+abbrev pub expressedCause : Expressed → Cause
+expressedCause (E.Refused c p) = c
+expressedCause (E.Done u n x p shape) = UnexpectedToken
+
+abbrev pub expressedPlace : Expressed → ℕ
+expressedPlace (E.Refused c p) = p
+expressedPlace (E.Done u n x p shape) = 0
+
+abbrev pub headedCause : Headed → Cause
+headedCause (H.Refused c p) = c
+headedCause (H.Done u n x count params) = UnexpectedToken
+
+abbrev pub headedPlace : Headed → ℕ
+headedPlace (H.Refused c p) = p
+headedPlace (H.Done u n x count params) = 0
+
+abbrev pub armsReadCause : ArmsRead → Cause
+armsReadCause (A.Refused c p) = c
+armsReadCause (A.Done u n x count empty) = UnexpectedToken
+
+abbrev pub armsReadPlace : ArmsRead → ℕ
+armsReadPlace (A.Refused c p) = p
+armsReadPlace (A.Done u n x count empty) = 0
+
+abbrev pub itemsReadCause : ItemsRead → Cause
+itemsReadCause (J.Refused c p) = c
+itemsReadCause (J.Done u n x markers expressions p shape) = UnexpectedToken
+
+abbrev pub itemsReadPlace : ItemsRead → ℕ
+itemsReadPlace (J.Refused c p) = p
+itemsReadPlace (J.Done u n x markers expressions p shape) = 0
 
 -- how many repeats stand one over another
 abbrev pub stackOf : Shape → ℕ

@@ -7,6 +7,8 @@ use mathlib.Core.Bool.{Bool, true, false}
 use mathlib.Core.List.{List, []}
 use mathlib.Core.Option.{Option, none, some}
 use lib.ListN.{length}
+use Rattle.error.specs.declared.Cause.{Cause}
+use Rattle.error.specs.declared.Cause.the-variants.{UnexpectedToken}
 use Rattle.error.specs.Promise.{causeNumber}
 use Rattle.characters.specs.Utf8.{codes, encodeAll}
 use Rattle.tree.specs.Records.{Node, textsOf}
@@ -154,6 +156,24 @@ OpensOn s t b count (O.Refused c p) = Unit {0}
 pub record Opens (s : List ℕ) (t : Current) (close : ℕ) (b : Comma) (count : ℕ) (r : Opened) : Type 0 where
   pub opens : (m : Char) → code m ≡ close → opening m b count (stream s t) ≡ opened s r
   pub on : (m : Char) → code m ≡ close → OpensOn s t b count r
+
+-- ------------------------------------------------------------------ what a refusal says
+
+abbrev pub parsedCause : Parsed → Cause
+parsedCause (P.Refused c p) = c
+parsedCause (P.Done u n x) = UnexpectedToken
+
+abbrev pub parsedPlace : Parsed → ℕ
+parsedPlace (P.Refused c p) = p
+parsedPlace (P.Done u n x) = 0
+
+abbrev pub listedCause : Listed → Cause
+listedCause (L.Refused c p) = c
+listedCause (L.Done u n x count) = UnexpectedToken
+
+abbrev pub listedPlace : Listed → ℕ
+listedPlace (L.Refused c p) = p
+listedPlace (L.Done u n x count) = 0
 
 -- ------------------------------------------------------------------ props
 

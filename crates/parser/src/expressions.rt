@@ -50,20 +50,19 @@ pub fn braced(
     ensures { λ r. ⌜ ExpressesBraced (parseBracedExpression (choiceAt left) (stream (now (source .entry)) token)) (now (source .entry)) token
         (lent n (now (records .entry)) x (now (texts .entry))) (now (records .exit)) (now (texts .exit)) r ⌝ }
 {
-    match tokens::expect_punctuation(source, token, 0x7B) {
-        Arrived::Refused(cause, at) => Expressed::Refused(cause, at),
-        Arrived::At(u) => match parse_choice(source, left, u, records, n, texts, x) {
-            Expressed::Refused(cause, at) => Expressed::Refused(cause, at),
-            Expressed::Done(v, m, y, p, shape) => match tokens::expect_punctuation(
-                source,
-                v,
-                0x7D,
-            ) {
-                Arrived::Refused(cause, at) => Expressed::Refused(cause, at),
-                Arrived::At(t) => Expressed::Done(t, m, y, p, shape),
-            },
-        },
-    }
+    let opened = tokens::expect_punctuation(source, token, 0x7B);
+    let Arrived::At(u) = opened else {
+        return Expressed::Refused(opened.cause(), opened.place());
+    };
+    let inside = parse_choice(source, left, u, records, n, texts, x);
+    let Expressed::Done(v, m, y, p, shape) = inside else {
+        return inside;
+    };
+    let closed = tokens::expect_punctuation(source, v, 0x7D);
+    let Arrived::At(t) = closed else {
+        return Expressed::Refused(closed.cause(), closed.place());
+    };
+    Expressed::Done(t, m, y, p, shape)
 }
 
 // `parse_expression_inner`
@@ -127,10 +126,13 @@ fn inner_mark(
         (lent n (now (records .entry)) x (now (texts .entry))) (now (records .exit)) (now (texts .exit)) r ⌝ }
 {
     match c {
-        0x28 => match tokens::next(source, token) {
-            Arrived::Refused(cause, at) => Expressed::Refused(cause, at),
-            Arrived::At(u) => parens(source, left, token, u, records, n, texts, x),
-        },
+        0x28 => {
+            let arrived = tokens::next(source, token);
+            let Arrived::At(u) = arrived else {
+                return Expressed::Refused(arrived.cause(), arrived.place());
+            };
+            parens(source, left, token, u, records, n, texts, x)
+        }
         0x5B => inline_rule(
             source,
             left,
@@ -218,10 +220,11 @@ fn inner_name(
     if lexer::words::spells(&source[a..e], b"_") {
         return parts::parse_any(source, token, records, n, texts, x);
     }
-    match tokens::next(source, token) {
-        Arrived::Refused(cause, at) => Expressed::Refused(cause, at),
-        Arrived::At(u) => named(source, left, token, a, e, u, records, n, texts, x),
-    }
+    let arrived = tokens::next(source, token);
+    let Arrived::At(u) = arrived else {
+        return Expressed::Refused(arrived.cause(), arrived.place());
+    };
+    named(source, left, token, a, e, u, records, n, texts, x)
 }
 
 // After a name: an inline rule, a class of `std`, or a name with its arguments.
@@ -290,23 +293,22 @@ fn reference(
     ensures { λ r. ⌜ Expresses (nameArguments (choiceAt left) (now (source .entry)) (startIn name) a e (stream (now (source .entry)) token)) (now (source .entry)) name 1 0
         (lent n (now (records .entry)) x (now (texts .entry))) (now (records .exit)) (now (texts .exit)) r ⌝ }
 {
-    match arguments(source, left, token, records, n, texts, x) {
-        Listed::Refused(cause, at) => Expressed::Refused(cause, at),
-        Listed::Done(u, m, y, count) => {
-            let put = store::put_named(
-                &source[a..e],
-                30,
-                tokens::start(name),
-                0,
-                count,
-                records,
-                m,
-                texts,
-                y,
-            );
-            Expressed::Done(u, put.n, put.x, tokens::start(name), Shape::Name)
-        }
-    }
+    let listed = arguments(source, left, token, records, n, texts, x);
+    let Listed::Done(u, m, y, count) = listed else {
+        return Expressed::Refused(listed.cause(), listed.place());
+    };
+    let put = store::put_named(
+        &source[a..e],
+        30,
+        tokens::start(name),
+        0,
+        count,
+        records,
+        m,
+        texts,
+        y,
+    );
+    Expressed::Done(u, put.n, put.x, tokens::start(name), Shape::Name)
 }
 
 // After `(`, which is the token `first`.
@@ -330,17 +332,17 @@ fn parens(
             let m = store::put_plain(records, n, 34, tokens::start(first), 1, 0);
             Expressed::Done(u, m, x, tokens::start(first), Shape::Other)
         }
-        Eaten::No => match parse_choice(source, left, token, records, n, texts, x) {
-            Expressed::Refused(cause, at) => Expressed::Refused(cause, at),
-            Expressed::Done(v, m, y, p, shape) => match tokens::expect_punctuation(
-                source,
-                v,
-                0x29,
-            ) {
-                Arrived::Refused(cause, at) => Expressed::Refused(cause, at),
-                Arrived::At(u) => Expressed::Done(u, m, y, p, shape),
-            },
-        },
+        Eaten::No => {
+            let inside = parse_choice(source, left, token, records, n, texts, x);
+            let Expressed::Done(v, m, y, p, shape) = inside else {
+                return inside;
+            };
+            let closed = tokens::expect_punctuation(source, v, 0x29);
+            let Arrived::At(u) = closed else {
+                return Expressed::Refused(closed.cause(), closed.place());
+            };
+            Expressed::Done(u, m, y, p, shape)
+        }
     }
 }
 
@@ -358,13 +360,15 @@ fn second(
     ensures { λ r. ⌜ Expresses (secondPart (choiceAt left) (stream (now (source .entry)) token)) (now (source .entry)) token 1 0
         (lent n (now (records .entry)) x (now (texts .entry))) (now (records .exit)) (now (texts .exit)) r ⌝ }
 {
-    match parse_choice(source, left, token, records, n, texts, x) {
-        Expressed::Refused(cause, at) => Expressed::Refused(cause, at),
-        Expressed::Done(v, m, y, p, shape) => match tokens::expect_punctuation(source, v, 0x3E) {
-            Arrived::Refused(cause, at) => Expressed::Refused(cause, at),
-            Arrived::At(u) => Expressed::Done(u, m, y, p, shape),
-        },
-    }
+    let inside = parse_choice(source, left, token, records, n, texts, x);
+    let Expressed::Done(v, m, y, p, shape) = inside else {
+        return inside;
+    };
+    let closed = tokens::expect_punctuation(source, v, 0x3E);
+    let Arrived::At(u) = closed else {
+        return Expressed::Refused(closed.cause(), closed.place());
+    };
+    Expressed::Done(u, m, y, p, shape)
 }
 
 // The parts of a specialize that starts at `start`, and `>`.
@@ -382,15 +386,21 @@ fn parts(
     ensures { λ r. ⌜ ParsesParts (specializeParts (choiceAt left) start (stream (now (source .entry)) token)) (now (source .entry)) token
         (lent n (now (records .entry)) x (now (texts .entry))) (now (records .exit)) (now (texts .exit)) r ⌝ }
 {
-    match parse_choice(source, left, token, records, n, texts, x) {
-        Expressed::Refused(cause, at) => Parsed::Refused(cause, at),
-        Expressed::Done(u, m, y, p, shape) => match tokens::eat_punctuation(source, u, 0x2C) {
-            Eaten::Refused(cause, at) => Parsed::Refused(cause, at),
-            Eaten::Yes(v) => match second(source, left, v, records, m, texts, y) {
-                Expressed::Refused(cause, at) => Parsed::Refused(cause, at),
-                Expressed::Done(t, k, z, _, _) => Parsed::Done(t, k, z),
-            },
-            Eaten::No => match parts::parse_specialize_content(
+    let inside = parse_choice(source, left, token, records, n, texts, x);
+    let Expressed::Done(u, m, y, p, shape) = inside else {
+        return Parsed::Refused(inside.cause(), inside.place());
+    };
+    match tokens::eat_punctuation(source, u, 0x2C) {
+        Eaten::Refused(cause, at) => Parsed::Refused(cause, at),
+        Eaten::Yes(v) => {
+            let behind = second(source, left, v, records, m, texts, y);
+            let Expressed::Done(t, k, z, _, _) = behind else {
+                return Parsed::Refused(behind.cause(), behind.place());
+            };
+            Parsed::Done(t, k, z)
+        }
+        Eaten::No => {
+            let content = parts::parse_specialize_content(
                 source,
                 u,
                 start,
@@ -400,14 +410,16 @@ fn parts(
                 m,
                 texts,
                 y,
-            ) {
-                Parsed::Refused(cause, at) => Parsed::Refused(cause, at),
-                Parsed::Done(_, k, z) => match tokens::expect_punctuation(source, u, 0x3E) {
-                    Arrived::Refused(cause, at) => Parsed::Refused(cause, at),
-                    Arrived::At(t) => Parsed::Done(t, k, z),
-                },
-            },
-        },
+            );
+            let Parsed::Done(_, k, z) = content else {
+                return content;
+            };
+            let closed = tokens::expect_punctuation(source, u, 0x3E);
+            let Arrived::At(t) = closed else {
+                return Parsed::Refused(closed.cause(), closed.place());
+            };
+            Parsed::Done(t, k, z)
+        }
     }
 }
 
@@ -426,32 +438,23 @@ fn specialize(
     ensures { λ r. ⌜ Expresses (parseSpecializeExpression (choiceAt left) (startIn token) (specializeOf kind) (stream (now (source .entry)) token)) (now (source .entry)) token 1 0
         (lent n (now (records .entry)) x (now (texts .entry))) (now (records .exit)) (now (texts .exit)) r ⌝ }
 {
-    match parts::specialize_head(source, token, records, n, texts, x) {
-        Listed::Refused(cause, at) => Expressed::Refused(cause, at),
-        Listed::Done(u, m, y, count) => match parts(
-            source,
-            left,
-            tokens::start(token),
-            u,
-            records,
-            m,
-            texts,
-            y,
-        ) {
-            Parsed::Refused(cause, at) => Expressed::Refused(cause, at),
-            Parsed::Done(v, k, z) => {
-                let w = store::put_plain(
-                    records,
-                    k,
-                    31,
-                    tokens::start(token),
-                    tree::specialize_value(kind),
-                    count + 2,
-                );
-                Expressed::Done(v, w, z, tokens::start(token), Shape::Other)
-            }
-        },
-    }
+    let head = parts::specialize_head(source, token, records, n, texts, x);
+    let Listed::Done(u, m, y, count) = head else {
+        return Expressed::Refused(head.cause(), head.place());
+    };
+    let parsed = parts(source, left, tokens::start(token), u, records, m, texts, y);
+    let Parsed::Done(v, k, z) = parsed else {
+        return Expressed::Refused(parsed.cause(), parsed.place());
+    };
+    let w = store::put_plain(
+        records,
+        k,
+        31,
+        tokens::start(token),
+        tree::specialize_value(kind),
+        count + 2,
+    );
+    Expressed::Done(v, w, z, tokens::start(token), Shape::Other)
 }
 
 // An inline rule from its props or its brace on. Its first token is its name, or its bracket where it has none.
@@ -470,36 +473,28 @@ fn inline_rule(
     ensures { λ r. ⌜ Expresses (parseInlineRuleExpression (choiceAt left) (startIn first) (inlineText (now (source .entry)) name) (stream (now (source .entry)) token)) (now (source .entry)) first 1 0
         (lent n (now (records .entry)) x (now (texts .entry))) (now (records .exit)) (now (texts .exit)) r ⌝ }
 {
-    match parts::rule_head(source, token, records, n, texts, x) {
-        Headed::Refused(cause, at) => Expressed::Refused(cause, at),
-        Headed::Done(u, m, y, count, params) => match braced(
-            source,
-            left,
-            u,
-            records,
-            m,
-            texts,
-            y,
-        ) {
-            Expressed::Refused(cause, at) => Expressed::Refused(cause, at),
-            Expressed::Done(v, k, z, _, _) => {
-                if params != 0 {
-                    return Expressed::Refused(Cause::InlineParameters, tokens::start(first));
-                }
-                let put = parts::put_inline(
-                    source,
-                    name,
-                    tokens::start(first),
-                    count + 1,
-                    records,
-                    k,
-                    texts,
-                    z,
-                );
-                Expressed::Done(v, put.n, put.x, tokens::start(first), Shape::Other)
-            }
-        },
+    let head = parts::rule_head(source, token, records, n, texts, x);
+    let Headed::Done(u, m, y, count, params) = head else {
+        return Expressed::Refused(head.cause(), head.place());
+    };
+    let inside = braced(source, left, u, records, m, texts, y);
+    let Expressed::Done(v, k, z, _, _) = inside else {
+        return inside;
+    };
+    if params != 0 {
+        return Expressed::Refused(Cause::InlineParameters, tokens::start(first));
     }
+    let put = parts::put_inline(
+        source,
+        name,
+        tokens::start(first),
+        count + 1,
+        records,
+        k,
+        texts,
+        z,
+    );
+    Expressed::Done(v, put.n, put.x, tokens::start(first), Shape::Other)
 }
 
 // Arguments after `<`.
@@ -528,17 +523,16 @@ fn list(
             Opened::Refused(cause, at) => {
                 return Listed::Refused(cause, at);
             }
-            Opened::Item(u) => match parse_choice(source, left, u, records, m, texts, y) {
-                Expressed::Refused(cause, at) => {
-                    return Listed::Refused(cause, at);
-                }
-                Expressed::Done(v, k, z, _, _) => {
-                    t = v;
-                    m = k;
-                    y = z;
-                    count += 1;
-                }
-            },
+            Opened::Item(u) => {
+                let argument = parse_choice(source, left, u, records, m, texts, y);
+                let Expressed::Done(v, k, z, _, _) = argument else {
+                    return Listed::Refused(argument.cause(), argument.place());
+                };
+                t = v;
+                m = k;
+                y = z;
+                count += 1;
+            }
         }
     }
 }
@@ -577,33 +571,33 @@ fn parse_suffix(
     ensures { λ r. ⌜ Expresses (parseExpressionSuffix (choiceAt left) (stream (now (source .entry)) token)) (now (source .entry)) token 1 0
         (lent n (now (records .entry)) x (now (texts .entry))) (now (records .exit)) (now (texts .exit)) r ⌝ }
 {
-    match parse_inner(source, left, token, records, n, texts, x) {
-        Expressed::Refused(cause, at) => Expressed::Refused(cause, at),
-        Expressed::Done(u, m, y, p, shape) => match parts::parse_repeats(
-            source,
-            u,
-            tokens::start(token),
-            parts::stack(shape),
-            records,
-            m,
-            texts,
-            y,
-        ) {
-            Listed::Refused(cause, at) => Expressed::Refused(cause, at),
-            Listed::Done(v, k, z, count) => {
-                if count == 0 {
-                    return Expressed::Done(v, k, z, p, shape);
-                }
-                Expressed::Done(
-                    v,
-                    k,
-                    z,
-                    tokens::start(token),
-                    Shape::Repeat(parts::stack(shape) + count),
-                )
-            }
-        },
+    let inner = parse_inner(source, left, token, records, n, texts, x);
+    let Expressed::Done(u, m, y, p, shape) = inner else {
+        return inner;
+    };
+    let repeated = parts::parse_repeats(
+        source,
+        u,
+        tokens::start(token),
+        parts::stack(shape),
+        records,
+        m,
+        texts,
+        y,
+    );
+    let Listed::Done(v, k, z, count) = repeated else {
+        return Expressed::Refused(repeated.cause(), repeated.place());
+    };
+    if count == 0 {
+        return Expressed::Done(v, k, z, p, shape);
     }
+    Expressed::Done(
+        v,
+        k,
+        z,
+        tokens::start(token),
+        Shape::Repeat(parts::stack(shape) + count),
+    )
 }
 
 // A marker, an expression, or the sequence's end.
@@ -626,10 +620,11 @@ fn item(
             if parts::ends_sequence(token) {
                 return ItemRead::End;
             }
-            match parse_suffix(source, left, token, records, n, texts, x) {
-                Expressed::Refused(cause, at) => ItemRead::Refused(cause, at),
-                Expressed::Done(u, m, y, p, shape) => ItemRead::Expression(u, m, y, p, shape),
-            }
+            let suffixed = parse_suffix(source, left, token, records, n, texts, x);
+            let Expressed::Done(u, m, y, p, shape) = suffixed else {
+                return ItemRead::Refused(suffixed.cause(), suffixed.place());
+            };
+            ItemRead::Expression(u, m, y, p, shape)
         }
     }
 }
@@ -694,31 +689,30 @@ fn parse_sequence(
     ensures { λ r. ⌜ Expresses (parseExpressionSequence (choiceAt left) (stream (now (source .entry)) token)) (now (source .entry)) token 0 1
         (lent n (now (records .entry)) x (now (texts .entry))) (now (records .exit)) (now (texts .exit)) r ⌝ }
 {
-    match items(source, left, token, records, n, texts, x) {
-        ItemsRead::Refused(cause, at) => Expressed::Refused(cause, at),
-        ItemsRead::Done(u, m, y, markers, expressions, p, shape) => {
-            if markers == 0 {
-                if expressions == 1 {
-                    return Expressed::Done(u, m, y, p, shape);
-                }
-            }
-            let k = store::put_plain(
-                records,
-                m,
-                34,
-                tokens::start(token),
-                0,
-                markers + expressions,
-            );
-            Expressed::Done(
-                u,
-                k,
-                y,
-                tokens::start(token),
-                parts::sequence_shape(expressions),
-            )
+    let read = items(source, left, token, records, n, texts, x);
+    let ItemsRead::Done(u, m, y, markers, expressions, p, shape) = read else {
+        return Expressed::Refused(read.cause(), read.place());
+    };
+    if markers == 0 {
+        if expressions == 1 {
+            return Expressed::Done(u, m, y, p, shape);
         }
     }
+    let k = store::put_plain(
+        records,
+        m,
+        34,
+        tokens::start(token),
+        0,
+        markers + expressions,
+    );
+    Expressed::Done(
+        u,
+        k,
+        y,
+        tokens::start(token),
+        parts::sequence_shape(expressions),
+    )
 }
 
 // The arms behind the first.
@@ -748,18 +742,17 @@ fn arms(
             Eaten::No => {
                 return ArmsRead::Done(t, m, y, count, empty);
             }
-            Eaten::Yes(u) => match parse_sequence(source, left, u, records, m, texts, y) {
-                Expressed::Refused(cause, at) => {
-                    return ArmsRead::Refused(cause, at);
-                }
-                Expressed::Done(v, k, z, p, shape) => {
-                    t = v;
-                    m = k;
-                    y = z;
-                    count += 1;
-                    empty = parts::first_empty(empty, p, shape);
-                }
-            },
+            Eaten::Yes(u) => {
+                let arm = parse_sequence(source, left, u, records, m, texts, y);
+                let Expressed::Done(v, k, z, p, shape) = arm else {
+                    return ArmsRead::Refused(arm.cause(), arm.place());
+                };
+                t = v;
+                m = k;
+                y = z;
+                count += 1;
+                empty = parts::first_empty(empty, p, shape);
+            }
         }
     }
 }
@@ -781,37 +774,22 @@ pub fn parse_choice(
     if left == 0 {
         return Expressed::Refused(Cause::TooDeep, tokens::start(token));
     }
-    match parse_sequence(source, left - 1, token, records, n, texts, x) {
-        Expressed::Refused(cause, at) => Expressed::Refused(cause, at),
-        Expressed::Done(u, m, y, p, shape) => match arms(
-            source,
-            left - 1,
-            u,
-            records,
-            m,
-            texts,
-            y,
-        ) {
-            ArmsRead::Refused(cause, at) => Expressed::Refused(cause, at),
-            ArmsRead::Done(v, k, z, count, empty) => {
-                if count == 0 {
-                    return Expressed::Done(v, k, z, p, shape);
-                }
-                match parts::first_of(p, shape, empty) {
-                    Empty::At(at) => Expressed::Refused(Cause::EmptyArm, at),
-                    Empty::None => {
-                        let w = store::put_plain(
-                            records,
-                            k,
-                            33,
-                            tokens::start(token),
-                            0,
-                            count + 1,
-                        );
-                        Expressed::Done(v, w, z, tokens::start(token), Shape::Other)
-                    }
-                }
-            }
-        },
+    let first = parse_sequence(source, left - 1, token, records, n, texts, x);
+    let Expressed::Done(u, m, y, p, shape) = first else {
+        return first;
+    };
+    let others = arms(source, left - 1, u, records, m, texts, y);
+    let ArmsRead::Done(v, k, z, count, empty) = others else {
+        return Expressed::Refused(others.cause(), others.place());
+    };
+    if count == 0 {
+        return Expressed::Done(v, k, z, p, shape);
+    }
+    match parts::first_of(p, shape, empty) {
+        Empty::At(at) => Expressed::Refused(Cause::EmptyArm, at),
+        Empty::None => {
+            let w = store::put_plain(records, k, 33, tokens::start(token), 0, count + 1);
+            Expressed::Done(v, w, z, tokens::start(token), Shape::Other)
+        }
     }
 }

@@ -35,7 +35,7 @@ ghost use Rattle.tokens.specs.Promise.{stream, startIn, markOf, stringOf};
 ghost use Rattle.tokens.specs.declared.Part.the-variants.{From};
 ghost use Rattle.parser.specs.Storing.{lent, Stores, node, nodesOf};
 ghost use Rattle.parser.specs.Steps.{Onward, Ready, ParsesList};
-ghost use Rattle.parser.specs.Shapes.{IsToken, IsSet, namedOf, repeatedOf, markedOf, endsBy, stackOf, isBlank, emptyBy, emptyFirst, sequenceShape, repeatNodes, paramsList, parseParams, ParsesHead, classPart, stdClass, parseAny, parseLiteral, parseSet, parseMarker, isStd, inlineBytes, ReadyInline, ParsesSpecializeHead, ReadyContent, StoresContent, Expresses, ExpressesItem};
+ghost use Rattle.parser.specs.Shapes.{expressedCause, expressedPlace, headedCause, headedPlace, armsReadCause, armsReadPlace, itemsReadCause, itemsReadPlace, IsToken, IsSet, namedOf, repeatedOf, markedOf, endsBy, stackOf, isBlank, emptyBy, emptyFirst, sequenceShape, repeatNodes, paramsList, parseParams, ParsesHead, classPart, stdClass, parseAny, parseLiteral, parseSet, parseMarker, isStd, inlineBytes, ReadyInline, ParsesSpecializeHead, ReadyContent, StoresContent, Expresses, ExpressesItem};
 
 // How many repeats may stand one over another.
 const REPEATS: usize = 64;
@@ -104,6 +104,87 @@ pub enum ItemsRead {
     Refused(Cause, usize),
 }
 
+// What an answer that is a refusal says, as of the tokens' answers.
+impl Expressed {
+    pub fn cause(self) -> Cause
+        ensures { λ r. ⌜ r ≡ expressedCause self ⌝ }
+    {
+        match self {
+            Expressed::Done(_, _, _, _, _) => Cause::UnexpectedToken,
+            Expressed::Refused(cause, _) => cause,
+        }
+    }
+
+    pub fn place(self) -> usize
+        ensures { λ r. ⌜ r ≡ expressedPlace self ⌝ }
+    {
+        match self {
+            Expressed::Done(_, _, _, _, _) => 0,
+            Expressed::Refused(_, at) => at,
+        }
+    }
+}
+
+impl Headed {
+    pub fn cause(self) -> Cause
+        ensures { λ r. ⌜ r ≡ headedCause self ⌝ }
+    {
+        match self {
+            Headed::Done(_, _, _, _, _) => Cause::UnexpectedToken,
+            Headed::Refused(cause, _) => cause,
+        }
+    }
+
+    pub fn place(self) -> usize
+        ensures { λ r. ⌜ r ≡ headedPlace self ⌝ }
+    {
+        match self {
+            Headed::Done(_, _, _, _, _) => 0,
+            Headed::Refused(_, at) => at,
+        }
+    }
+}
+
+impl ArmsRead {
+    pub fn cause(self) -> Cause
+        ensures { λ r. ⌜ r ≡ armsReadCause self ⌝ }
+    {
+        match self {
+            ArmsRead::Done(_, _, _, _, _) => Cause::UnexpectedToken,
+            ArmsRead::Refused(cause, _) => cause,
+        }
+    }
+
+    pub fn place(self) -> usize
+        ensures { λ r. ⌜ r ≡ armsReadPlace self ⌝ }
+    {
+        match self {
+            ArmsRead::Done(_, _, _, _, _) => 0,
+            ArmsRead::Refused(_, at) => at,
+        }
+    }
+}
+
+impl ItemsRead {
+    pub fn cause(self) -> Cause
+        ensures { λ r. ⌜ r ≡ itemsReadCause self ⌝ }
+    {
+        match self {
+            ItemsRead::Done(_, _, _, _, _, _, _) => Cause::UnexpectedToken,
+            ItemsRead::Refused(cause, _) => cause,
+        }
+    }
+
+    pub fn place(self) -> usize
+        ensures { λ r. ⌜ r ≡ itemsReadPlace self ⌝ }
+    {
+        match self {
+            ItemsRead::Done(_, _, _, _, _, _, _) => 0,
+            ItemsRead::Refused(_, at) => at,
+        }
+    }
+}
+
 // ------------------------------------------------------------------ rules
 
 fn params_list(
@@ -130,28 +211,27 @@ fn params_list(
             Opened::Refused(cause, at) => {
                 return Listed::Refused(cause, at);
             }
-            Opened::Item(u) => match tokens::parse_identifier(source, u) {
-                Taken::Refused(cause, at) => {
-                    return Listed::Refused(cause, at);
-                }
-                Taken::Got(a, e, v) => {
-                    let put = store::put_named(
-                        &source[a..e],
-                        4,
-                        tokens::start(u),
-                        0,
-                        0,
-                        records,
-                        m,
-                        texts,
-                        y,
-                    );
-                    t = v;
-                    m = put.n;
-                    y = put.x;
-                    count += 1;
-                }
-            },
+            Opened::Item(u) => {
+                let taken = tokens::parse_identifier(source, u);
+                let Taken::Got(a, e, v) = taken else {
+                    return Listed::Refused(taken.cause(), taken.place());
+                };
+                let put = store::put_named(
+                    &source[a..e],
+                    4,
+                    tokens::start(u),
+                    0,
+                    0,
+                    records,
+                    m,
+                    texts,
+                    y,
+                );
+                t = v;
+                m = put.n;
+                y = put.x;
+                count += 1;
+            }
         }
     }
 }
@@ -188,13 +268,15 @@ pub fn rule_head(
     ensures { λ r. ⌜ ParsesHead (now (source .entry)) token
         (lent n (now (records .entry)) x (now (texts .entry))) (now (records .exit)) (now (texts .exit)) r ⌝ }
 {
-    match props::parse_props(source, token, records, n, texts, x) {
-        Listed::Refused(cause, at) => Headed::Refused(cause, at),
-        Listed::Done(u, m, y, count) => match parse_params(source, u, records, m, texts, y) {
-            Listed::Refused(cause, at) => Headed::Refused(cause, at),
-            Listed::Done(v, k, z, params) => Headed::Done(v, k, z, count, params),
-        },
-    }
+    let listed = props::parse_props(source, token, records, n, texts, x);
+    let Listed::Done(u, m, y, count) = listed else {
+        return Headed::Refused(listed.cause(), listed.place());
+    };
+    let named = parse_params(source, u, records, m, texts, y);
+    let Listed::Done(v, k, z, params) = named else {
+        return Headed::Refused(named.cause(), named.place());
+    };
+    Headed::Done(v, k, z, count, params)
 }
 
 // ------------------------------------------------------------------ parts of expressions
@@ -234,13 +316,12 @@ pub fn parse_class(
     let ClassNamed::Class(class) = class_from_name(&source[a..e]) else {
         return Expressed::Refused(Cause::UnexpectedToken, tokens::start(token));
     };
-    match tokens::next(source, token) {
-        Arrived::Refused(cause, at) => Expressed::Refused(cause, at),
-        Arrived::At(u) => {
-            let m = store::put_plain(records, n, 40, start, tree::class_value(class), 0);
-            Expressed::Done(u, m, x, start, Shape::Other)
-        }
-    }
+    let arrived = tokens::next(source, token);
+    let Arrived::At(u) = arrived else {
+        return Expressed::Refused(arrived.cause(), arrived.place());
+    };
+    let m = store::put_plain(records, n, 40, start, tree::class_value(class), 0);
+    Expressed::Done(u, m, x, start, Shape::Other)
 }
 
 // After `std` and its dot, which is the current token.
@@ -257,35 +338,18 @@ pub fn std_class(
     ensures { λ r. ⌜ Expresses (stdClass (startIn name) (stream (now (source .entry)) token)) (now (source .entry)) name 1 0
         (lent n (now (records .entry)) x (now (texts .entry))) (now (records .exit)) (now (texts .exit)) r ⌝ }
 {
-    match tokens::next(source, token) {
-        Arrived::Refused(cause, at) => Expressed::Refused(cause, at),
-        Arrived::At(u) => match tokens::at(u) {
-            Part::From(a, e) => parse_class(
-                source,
-                u,
-                tokens::start(name),
-                a,
-                e,
-                records,
-                n,
-                texts,
-                x,
-            ),
-            Part::Nothing => match tokens::name(u) {
-                Part::From(a, e) => parse_class(
-                    source,
-                    u,
-                    tokens::start(name),
-                    a,
-                    e,
-                    records,
-                    n,
-                    texts,
-                    x,
-                ),
-                Part::Nothing => Expressed::Refused(Cause::UnexpectedToken, tokens::start(u)),
-            },
-        },
+    let arrived = tokens::next(source, token);
+    let Arrived::At(u) = arrived else {
+        return Expressed::Refused(arrived.cause(), arrived.place());
+    };
+    match tokens::at(u) {
+        Part::From(a, e) => parse_class(source, u, tokens::start(name), a, e, records, n, texts, x),
+        Part::Nothing => {
+            let Part::From(a, e) = tokens::name(u) else {
+                return Expressed::Refused(Cause::UnexpectedToken, tokens::start(u));
+            };
+            parse_class(source, u, tokens::start(name), a, e, records, n, texts, x)
+        }
     }
 }
 
@@ -302,13 +366,12 @@ pub fn parse_any(
     ensures { λ r. ⌜ Expresses (parseAny (startIn token) (stream (now (source .entry)) token)) (now (source .entry)) token 1 0
         (lent n (now (records .entry)) x (now (texts .entry))) (now (records .exit)) (now (texts .exit)) r ⌝ }
 {
-    match tokens::next(source, token) {
-        Arrived::Refused(cause, at) => Expressed::Refused(cause, at),
-        Arrived::At(u) => {
-            let m = store::put_plain(records, n, 39, tokens::start(token), 0, 0);
-            Expressed::Done(u, m, x, tokens::start(token), Shape::Other)
-        }
-    }
+    let arrived = tokens::next(source, token);
+    let Arrived::At(u) = arrived else {
+        return Expressed::Refused(arrived.cause(), arrived.place());
+    };
+    let m = store::put_plain(records, n, 39, tokens::start(token), 0, 0);
+    Expressed::Done(u, m, x, tokens::start(token), Shape::Other)
 }
 
 // A string, which is the current token. An empty one is explicitly empty.
@@ -326,27 +389,28 @@ pub fn parse_literal_expression(
     ensures { λ r. ⌜ Expresses (parseLiteral (now (source .entry)) (startIn token) a e (stream (now (source .entry)) token)) (now (source .entry)) token 1 0
         (lent n (now (records .entry)) x (now (texts .entry))) (now (records .exit)) (now (texts .exit)) r ⌝ }
 {
-    match tokens::next(source, token) {
-        Arrived::Refused(cause, at) => Expressed::Refused(cause, at),
-        Arrived::At(u) => match lexer::escapes::set_atom(&source[a..e], 0) {
-            Atom::End => {
-                let m = store::put_plain(records, n, 34, tokens::start(token), 1, 0);
-                Expressed::Done(u, m, x, tokens::start(token), Shape::Other)
-            }
-            Atom::One(_, _, _) => {
-                let put = store::put_string(
-                    &source[a..e],
-                    36,
-                    tokens::start(token),
-                    0,
-                    records,
-                    n,
-                    texts,
-                    x,
-                );
-                Expressed::Done(u, put.n, put.x, tokens::start(token), Shape::Literal(a, e))
-            }
-        },
+    let arrived = tokens::next(source, token);
+    let Arrived::At(u) = arrived else {
+        return Expressed::Refused(arrived.cause(), arrived.place());
+    };
+    match lexer::escapes::set_atom(&source[a..e], 0) {
+        Atom::End => {
+            let m = store::put_plain(records, n, 34, tokens::start(token), 1, 0);
+            Expressed::Done(u, m, x, tokens::start(token), Shape::Other)
+        }
+        Atom::One(_, _, _) => {
+            let put = store::put_string(
+                &source[a..e],
+                36,
+                tokens::start(token),
+                0,
+                records,
+                n,
+                texts,
+                x,
+            );
+            Expressed::Done(u, put.n, put.x, tokens::start(token), Shape::Literal(a, e))
+        }
     }
 }
 
@@ -369,20 +433,21 @@ pub fn parse_set_expression(
     match store::put_spans(&source[a..e], tokens::start(token), records, n) {
         Ranges::Reversed => Expressed::Refused(Cause::ReversedSpan, tokens::start(token)),
         Ranges::Overlapping => Expressed::Refused(Cause::OverlappingSpan, tokens::start(token)),
-        Ranges::Sound(count) => match tokens::next(source, token) {
-            Arrived::Refused(cause, at) => Expressed::Refused(cause, at),
-            Arrived::At(u) => {
-                let m = store::put_plain(
-                    records,
-                    n + 7 * count,
-                    37,
-                    tokens::start(token),
-                    inverted as u32,
-                    count,
-                );
-                Expressed::Done(u, m, x, tokens::start(token), Shape::Other)
-            }
-        },
+        Ranges::Sound(count) => {
+            let arrived = tokens::next(source, token);
+            let Arrived::At(u) = arrived else {
+                return Expressed::Refused(arrived.cause(), arrived.place());
+            };
+            let m = store::put_plain(
+                records,
+                n + 7 * count,
+                37,
+                tokens::start(token),
+                inverted as u32,
+                count,
+            );
+            Expressed::Done(u, m, x, tokens::start(token), Shape::Other)
+        }
     }
 }
 
@@ -425,16 +490,13 @@ pub fn parse_repeats(
         if stack + count == REPEATS {
             return Listed::Refused(Cause::TooDeep, tokens::start(t));
         }
-        match tokens::next(source, t) {
-            Arrived::Refused(cause, at) => {
-                return Listed::Refused(cause, at);
-            }
-            Arrived::At(u) => {
-                m = store::put_plain(records, m, 35, start, tree::repeat_value(kind), 1);
-                t = u;
-                count += 1;
-            }
-        }
+        let arrived = tokens::next(source, t);
+        let Arrived::At(u) = arrived else {
+            return Listed::Refused(arrived.cause(), arrived.place());
+        };
+        m = store::put_plain(records, m, 35, start, tree::repeat_value(kind), 1);
+        t = u;
+        count += 1;
     }
 }
 
@@ -507,26 +569,26 @@ pub fn parse_marker(
     ensures { λ r. ⌜ ExpressesItem (parseMarker (startIn token) (markerOf kind) (stream (now (source .entry)) token)) (now (source .entry)) token
         (lent n (now (records .entry)) x (now (texts .entry))) (now (records .exit)) (now (texts .exit)) r ⌝ }
 {
-    match tokens::next(source, token) {
-        Arrived::Refused(cause, at) => ItemRead::Refused(cause, at),
-        Arrived::At(u) => match tokens::parse_identifier(source, u) {
-            Taken::Refused(cause, at) => ItemRead::Refused(cause, at),
-            Taken::Got(a, e, v) => {
-                let put = store::put_named(
-                    &source[a..e],
-                    tree::marker_number(kind),
-                    tokens::start(token),
-                    0,
-                    0,
-                    records,
-                    n,
-                    texts,
-                    x,
-                );
-                ItemRead::Marker(v, put.n, put.x)
-            }
-        },
-    }
+    let arrived = tokens::next(source, token);
+    let Arrived::At(u) = arrived else {
+        return ItemRead::Refused(arrived.cause(), arrived.place());
+    };
+    let taken = tokens::parse_identifier(source, u);
+    let Taken::Got(a, e, v) = taken else {
+        return ItemRead::Refused(taken.cause(), taken.place());
+    };
+    let put = store::put_named(
+        &source[a..e],
+        tree::marker_number(kind),
+        tokens::start(token),
+        0,
+        0,
+        records,
+        n,
+        texts,
+        x,
+    );
+    ItemRead::Marker(v, put.n, put.x)
 }
 
 // The shape of a sequence with so many expressions that is not one expression alone.
@@ -577,16 +639,19 @@ pub fn specialize_head(
     ensures { λ r. ⌜ ParsesSpecializeHead (now (source .entry)) token
         (lent n (now (records .entry)) x (now (texts .entry))) (now (records .exit)) (now (texts .exit)) r ⌝ }
 {
-    match tokens::next(source, token) {
-        Arrived::Refused(cause, at) => Listed::Refused(cause, at),
-        Arrived::At(u) => match props::parse_props(source, u, records, n, texts, x) {
-            Listed::Refused(cause, at) => Listed::Refused(cause, at),
-            Listed::Done(v, m, y, count) => match tokens::expect_punctuation(source, v, 0x3C) {
-                Arrived::Refused(cause, at) => Listed::Refused(cause, at),
-                Arrived::At(t) => Listed::Done(t, m, y, count),
-            },
-        },
-    }
+    let arrived = tokens::next(source, token);
+    let Arrived::At(u) = arrived else {
+        return Listed::Refused(arrived.cause(), arrived.place());
+    };
+    let listed = props::parse_props(source, u, records, n, texts, x);
+    let Listed::Done(v, m, y, count) = listed else {
+        return listed;
+    };
+    let opened = tokens::expect_punctuation(source, v, 0x3C);
+    let Arrived::At(t) = opened else {
+        return Listed::Refused(opened.cause(), opened.place());
+    };
+    Listed::Done(t, m, y, count)
 }
 
 // The content where there is one part: a literal is stored again. Its start is p, and the whole starts at `start`.

@@ -17,7 +17,7 @@ ghost use Rattle.notation.specs.Parser.{loop};
 ghost use Rattle.tokens.specs.declared.Part.the-variants.{From};
 ghost use Rattle.tokens.specs.Promise.{stream, markOf, stringOf, LiesIn};
 ghost use Rattle.parser.specs.Storing.{lent, nodesOf};
-ghost use Rattle.parser.specs.Steps.{Ready, Parses, ParsesTurn, ParsesList, betweenBy, commaStep, stepBy, separator as separatorD, Separates, Opens, PartValue, parseValue, PropName, propsList};
+ghost use Rattle.parser.specs.Steps.{parsedCause, parsedPlace, listedCause, listedPlace, Ready, Parses, ParsesTurn, ParsesList, betweenBy, commaStep, stepBy, separator as separatorD, Separates, Opens, PartValue, parseValue, PropName, propsList};
 
 // What was read is stored: the current token after it, and how many words and bytes are taken.
 pub enum Parsed {
@@ -43,6 +43,47 @@ pub enum Opened {
     Item(Current),
     Closed(Current),
     Refused(Cause, usize),
+}
+
+// What an answer that is a refusal says, as of the tokens' answers.
+impl Parsed {
+    pub fn cause(self) -> Cause
+        ensures { λ r. ⌜ r ≡ parsedCause self ⌝ }
+    {
+        match self {
+            Parsed::Done(_, _, _) => Cause::UnexpectedToken,
+            Parsed::Refused(cause, _) => cause,
+        }
+    }
+
+    pub fn place(self) -> usize
+        ensures { λ r. ⌜ r ≡ parsedPlace self ⌝ }
+    {
+        match self {
+            Parsed::Done(_, _, _) => 0,
+            Parsed::Refused(_, at) => at,
+        }
+    }
+}
+
+impl Listed {
+    pub fn cause(self) -> Cause
+        ensures { λ r. ⌜ r ≡ listedCause self ⌝ }
+    {
+        match self {
+            Listed::Done(_, _, _, _) => Cause::UnexpectedToken,
+            Listed::Refused(cause, _) => cause,
+        }
+    }
+
+    pub fn place(self) -> usize
+        ensures { λ r. ⌜ r ≡ listedPlace self ⌝ }
+    {
+        match self {
+            Listed::Done(_, _, _, _) => 0,
+            Listed::Refused(_, at) => at,
+        }
+    }
 }
 
 // What stands between the items of a list: a comma that must be there, one that may, nothing.
@@ -87,10 +128,13 @@ pub fn opening(source: &[u8], token: Current, close: u32, comma: Comma, count: u
     match tokens::eat_punctuation(source, token, close) {
         Eaten::Yes(u) => Opened::Closed(u),
         Eaten::Refused(cause, at) => Opened::Refused(cause, at),
-        Eaten::No => match separator(source, token, comma, count) {
-            Arrived::At(u) => Opened::Item(u),
-            Arrived::Refused(cause, at) => Opened::Refused(cause, at),
-        },
+        Eaten::No => {
+            let arrived = separator(source, token, comma, count);
+            let Arrived::At(u) = arrived else {
+                return Opened::Refused(arrived.cause(), arrived.place());
+            };
+            Opened::Item(u)
+        }
     }
 }
 
@@ -108,13 +152,12 @@ fn part_value(
     ensures { λ r. ⌜ ParsesTurn (parsePart [] (stream (now (source .entry)) token)) (nodesOf partBranch) (now (source .entry)) token
         (lent n (now (records .entry)) x (now (texts .entry))) (now (records .exit)) (now (texts .exit)) r ⌝ }
 {
-    match tokens::next(source, token) {
-        Arrived::Refused(cause, at) => Turn::Refused(cause, at),
-        Arrived::At(u) => {
-            let put = store::put_named(text, 6, tokens::start(token), 0, 0, records, n, texts, x);
-            Turn::More(u, put.n, put.x)
-        }
-    }
+    let arrived = tokens::next(source, token);
+    let Arrived::At(u) = arrived else {
+        return Turn::Refused(arrived.cause(), arrived.place());
+    };
+    let put = store::put_named(text, 6, tokens::start(token), 0, 0, records, n, texts, x);
+    Turn::More(u, put.n, put.x)
 }
 
 // A part that is a string.
@@ -132,22 +175,21 @@ fn part_string(
     ensures { λ r. ⌜ ParsesTurn (parsePart [] (stream (now (source .entry)) token)) (nodesOf partBranch) (now (source .entry)) token
         (lent n (now (records .entry)) x (now (texts .entry))) (now (records .exit)) (now (texts .exit)) r ⌝ }
 {
-    match tokens::next(source, token) {
-        Arrived::Refused(cause, at) => Turn::Refused(cause, at),
-        Arrived::At(u) => {
-            let put = store::put_string(
-                &source[a..e],
-                6,
-                tokens::start(token),
-                0,
-                records,
-                n,
-                texts,
-                x,
-            );
-            Turn::More(u, put.n, put.x)
-        }
-    }
+    let arrived = tokens::next(source, token);
+    let Arrived::At(u) = arrived else {
+        return Turn::Refused(arrived.cause(), arrived.place());
+    };
+    let put = store::put_string(
+        &source[a..e],
+        6,
+        tokens::start(token),
+        0,
+        records,
+        n,
+        texts,
+        x,
+    );
+    Turn::More(u, put.n, put.x)
 }
 
 // A part `{name}`, at its brace.
@@ -163,29 +205,30 @@ fn part_braced(
     ensures { λ r. ⌜ ParsesTurn (parsePart [] (stream (now (source .entry)) token)) (nodesOf partBranch) (now (source .entry)) token
         (lent n (now (records .entry)) x (now (texts .entry))) (now (records .exit)) (now (texts .exit)) r ⌝ }
 {
-    match tokens::next(source, token) {
-        Arrived::Refused(cause, at) => Turn::Refused(cause, at),
-        Arrived::At(u) => match tokens::parse_identifier(source, u) {
-            Taken::Refused(cause, at) => Turn::Refused(cause, at),
-            Taken::Got(a, e, v) => match tokens::expect_punctuation(source, v, 0x7D) {
-                Arrived::Refused(cause, at) => Turn::Refused(cause, at),
-                Arrived::At(w) => {
-                    let put = store::put_named(
-                        &source[a..e],
-                        7,
-                        tokens::start(token),
-                        0,
-                        0,
-                        records,
-                        n,
-                        texts,
-                        x,
-                    );
-                    Turn::More(w, put.n, put.x)
-                }
-            },
-        },
-    }
+    let arrived = tokens::next(source, token);
+    let Arrived::At(u) = arrived else {
+        return Turn::Refused(arrived.cause(), arrived.place());
+    };
+    let taken = tokens::parse_identifier(source, u);
+    let Taken::Got(a, e, v) = taken else {
+        return Turn::Refused(taken.cause(), taken.place());
+    };
+    let closed = tokens::expect_punctuation(source, v, 0x7D);
+    let Arrived::At(w) = closed else {
+        return Turn::Refused(closed.cause(), closed.place());
+    };
+    let put = store::put_named(
+        &source[a..e],
+        7,
+        tokens::start(token),
+        0,
+        0,
+        records,
+        n,
+        texts,
+        x,
+    );
+    Turn::More(w, put.n, put.x)
 }
 
 // A part of a prop's value, or none.
@@ -296,26 +339,26 @@ fn prop_named(
     ensures { λ r. ⌜ Parses (parseProp (stream (now (source .entry)) token)) (nodesOf propBranch) (now (source .entry)) token
         (lent n (now (records .entry)) x (now (texts .entry))) (now (records .exit)) (now (texts .exit)) r ⌝ }
 {
-    match tokens::next(source, token) {
-        Arrived::Refused(cause, at) => Parsed::Refused(cause, at),
-        Arrived::At(u) => match parse_value(source, u, records, n, texts, x) {
-            Listed::Refused(cause, at) => Parsed::Refused(cause, at),
-            Listed::Done(v, m, y, count) => {
-                let put = store::put_named(
-                    &source[a..e],
-                    5,
-                    tokens::start(token),
-                    at,
-                    count,
-                    records,
-                    m,
-                    texts,
-                    y,
-                );
-                Parsed::Done(v, put.n, put.x)
-            }
-        },
-    }
+    let arrived = tokens::next(source, token);
+    let Arrived::At(u) = arrived else {
+        return Parsed::Refused(arrived.cause(), arrived.place());
+    };
+    let listed = parse_value(source, u, records, n, texts, x);
+    let Listed::Done(v, m, y, count) = listed else {
+        return Parsed::Refused(listed.cause(), listed.place());
+    };
+    let put = store::put_named(
+        &source[a..e],
+        5,
+        tokens::start(token),
+        at,
+        count,
+        records,
+        m,
+        texts,
+        y,
+    );
+    Parsed::Done(v, put.n, put.x)
 }
 
 fn parse_prop(
@@ -332,10 +375,12 @@ fn parse_prop(
 {
     match tokens::at(token) {
         Part::From(a, e) => prop_named(source, token, 1, a, e, records, n, texts, x),
-        Part::Nothing => match tokens::name(token) {
-            Part::From(a, e) => prop_named(source, token, 0, a, e, records, n, texts, x),
-            Part::Nothing => Parsed::Refused(Cause::UnexpectedToken, tokens::start(token)),
-        },
+        Part::Nothing => {
+            let Part::From(a, e) = tokens::name(token) else {
+                return Parsed::Refused(Cause::UnexpectedToken, tokens::start(token));
+            };
+            prop_named(source, token, 0, a, e, records, n, texts, x)
+        }
     }
 }
 
@@ -364,17 +409,16 @@ fn props_list(
             Opened::Refused(cause, at) => {
                 return Listed::Refused(cause, at);
             }
-            Opened::Item(u) => match parse_prop(source, u, records, m, texts, y) {
-                Parsed::Refused(cause, at) => {
-                    return Listed::Refused(cause, at);
-                }
-                Parsed::Done(v, k, z) => {
-                    t = v;
-                    m = k;
-                    y = z;
-                    count += 1;
-                }
-            },
+            Opened::Item(u) => {
+                let parsed = parse_prop(source, u, records, m, texts, y);
+                let Parsed::Done(v, k, z) = parsed else {
+                    return Listed::Refused(parsed.cause(), parsed.place());
+                };
+                t = v;
+                m = k;
+                y = z;
+                count += 1;
+            }
         }
     }
 }

@@ -45,10 +45,10 @@ pub enum Declared {
 pub fn of_kind(parsed: Parsed, kind: u32, top: bool) -> Declared
     ensures { λ r. ⌜ r ≡ declaredOf kind top parsed ⌝ }
 {
-    match parsed {
-        Parsed::Done(u, n, x) => Declared::Done(u, n, x, kind, top),
-        Parsed::Refused(cause, at) => Declared::Refused(cause, at),
-    }
+    let Parsed::Done(u, n, x) = parsed else {
+        return Declared::Refused(parsed.cause(), parsed.place());
+    };
+    Declared::Done(u, n, x, kind, top)
 }
 
 // `@tokens`, at its keyword.
@@ -64,24 +64,16 @@ pub fn parse_tokens(
     ensures { λ r. ⌜ Parses (parseTokens (stream (now (source .entry)) token)) (nodesOf tokensBranch) (now (source .entry)) token
         (lent n (now (records .entry)) x (now (texts .entry))) (now (records .exit)) (now (texts .exit)) r ⌝ }
 {
-    match tokens::next(source, token) {
-        Arrived::Refused(cause, at) => Parsed::Refused(cause, at),
-        Arrived::At(u) => match blocks::parse_block(
-            source,
-            Block::Tokens,
-            u,
-            records,
-            n,
-            texts,
-            x,
-        ) {
-            Listed::Refused(cause, at) => Parsed::Refused(cause, at),
-            Listed::Done(v, m, y, count) => {
-                let k = store::put_plain(records, m, 8, tokens::start(token), 0, count);
-                Parsed::Done(v, k, y)
-            }
-        },
-    }
+    let arrived = tokens::next(source, token);
+    let Arrived::At(u) = arrived else {
+        return Parsed::Refused(arrived.cause(), arrived.place());
+    };
+    let listed = blocks::parse_block(source, Block::Tokens, u, records, n, texts, x);
+    let Listed::Done(v, m, y, count) = listed else {
+        return Parsed::Refused(listed.cause(), listed.place());
+    };
+    let k = store::put_plain(records, m, 8, tokens::start(token), 0, count);
+    Parsed::Done(v, k, y)
 }
 
 // `tokens` and its block, after `@local`; it starts at `start`.
@@ -101,21 +93,14 @@ fn parse_local_tokens(
     match tokens::eat_identifier_value(source, token, b"tokens") {
         Eaten::Refused(cause, at) => Parsed::Refused(cause, at),
         Eaten::No => Parsed::Refused(Cause::UnexpectedToken, tokens::start(token)),
-        Eaten::Yes(u) => match blocks::parse_block(
-            source,
-            Block::LocalTokens,
-            u,
-            records,
-            n,
-            texts,
-            x,
-        ) {
-            Listed::Refused(cause, at) => Parsed::Refused(cause, at),
-            Listed::Done(v, m, y, count) => {
-                let k = store::put_plain(records, m, 12, start, 0, count);
-                Parsed::Done(v, k, y)
-            }
-        },
+        Eaten::Yes(u) => {
+            let listed = blocks::parse_block(source, Block::LocalTokens, u, records, n, texts, x);
+            let Listed::Done(v, m, y, count) = listed else {
+                return Parsed::Refused(listed.cause(), listed.place());
+            };
+            let k = store::put_plain(records, m, 12, start, 0, count);
+            Parsed::Done(v, k, y)
+        }
     }
 }
 
@@ -132,10 +117,11 @@ pub fn parse_local(
     ensures { λ r. ⌜ Parses (past (localAt (startIn token)) (stream (now (source .entry)) token)) (nodesOf localBranch) (now (source .entry)) token
         (lent n (now (records .entry)) x (now (texts .entry))) (now (records .exit)) (now (texts .exit)) r ⌝ }
 {
-    match tokens::next(source, token) {
-        Arrived::Refused(cause, at) => Parsed::Refused(cause, at),
-        Arrived::At(u) => parse_local_tokens(source, u, tokens::start(token), records, n, texts, x),
-    }
+    let arrived = tokens::next(source, token);
+    let Arrived::At(u) = arrived else {
+        return Parsed::Refused(arrived.cause(), arrived.place());
+    };
+    parse_local_tokens(source, u, tokens::start(token), records, n, texts, x)
 }
 
 // The name, the source and the block of an external token set, at the name: 15, the block's members, and a record over them and
@@ -157,32 +143,31 @@ fn parse_external_set(
     ensures { λ r. ⌜ Parses (externalSet block (stream (now (source .entry)) token)) (setNodes block kind start value before) (now (source .entry)) token
         (lent n (now (records .entry)) x (now (texts .entry))) (now (records .exit)) (now (texts .exit)) r ⌝ }
 {
-    match tokens::parse_identifier(source, token) {
-        Taken::Refused(cause, at) => Parsed::Refused(cause, at),
-        Taken::Got(a, e, u) => match externals::parse_source(source, u) {
-            Taken::Refused(cause, at) => Parsed::Refused(cause, at),
-            Taken::Got(b, f, v) => {
-                let from = store::put_string(&source[b..f], 15, 0, 0, records, n, texts, x);
-                match blocks::parse_block(source, block, v, records, from.n, texts, from.x) {
-                    Listed::Refused(cause, at) => Parsed::Refused(cause, at),
-                    Listed::Done(w, m, y, count) => {
-                        let put = store::put_named(
-                            &source[a..e],
-                            kind,
-                            start,
-                            value,
-                            before + 1 + count,
-                            records,
-                            m,
-                            texts,
-                            y,
-                        );
-                        Parsed::Done(w, put.n, put.x)
-                    }
-                }
-            }
-        },
-    }
+    let taken = tokens::parse_identifier(source, token);
+    let Taken::Got(a, e, u) = taken else {
+        return Parsed::Refused(taken.cause(), taken.place());
+    };
+    let sourced = externals::parse_source(source, u);
+    let Taken::Got(b, f, v) = sourced else {
+        return Parsed::Refused(sourced.cause(), sourced.place());
+    };
+    let from = store::put_string(&source[b..f], 15, 0, 0, records, n, texts, x);
+    let listed = blocks::parse_block(source, block, v, records, from.n, texts, from.x);
+    let Listed::Done(w, m, y, count) = listed else {
+        return Parsed::Refused(listed.cause(), listed.place());
+    };
+    let put = store::put_named(
+        &source[a..e],
+        kind,
+        start,
+        value,
+        before + 1 + count,
+        records,
+        m,
+        texts,
+        y,
+    );
+    Parsed::Done(w, put.n, put.x)
 }
 
 // `@external tokens`, at `tokens`; it starts at `start`.
@@ -199,22 +184,23 @@ pub fn parse_external_tokens(
     ensures { λ r. ⌜ Parses (past (parseExternalTokens start) (stream (now (source .entry)) token)) (nodesOf declarationBranch) (now (source .entry)) token
         (lent n (now (records .entry)) x (now (texts .entry))) (now (records .exit)) (now (texts .exit)) r ⌝ }
 {
-    match tokens::next(source, token) {
-        Arrived::Refused(cause, at) => Parsed::Refused(cause, at),
-        Arrived::At(u) => parse_external_set(
-            source,
-            u,
-            Block::ExternalTokens,
-            16,
-            start,
-            0,
-            0,
-            records,
-            n,
-            texts,
-            x,
-        ),
-    }
+    let arrived = tokens::next(source, token);
+    let Arrived::At(u) = arrived else {
+        return Parsed::Refused(arrived.cause(), arrived.place());
+    };
+    parse_external_set(
+        source,
+        u,
+        Block::ExternalTokens,
+        16,
+        start,
+        0,
+        0,
+        records,
+        n,
+        texts,
+        x,
+    )
 }
 
 // The value of a specializer's record.
@@ -242,25 +228,27 @@ pub fn parse_external_specializer(
     ensures { λ r. ⌜ Parses (past (parseExternalSpecializer start (specializeBy extend)) (stream (now (source .entry)) token)) (nodesOf declarationBranch) (now (source .entry)) token
         (lent n (now (records .entry)) x (now (texts .entry))) (now (records .exit)) (now (texts .exit)) r ⌝ }
 {
-    match tokens::next(source, token) {
-        Arrived::Refused(cause, at) => Parsed::Refused(cause, at),
-        Arrived::At(u) => match expressions::braced(source, LEVELS, u, records, n, texts, x) {
-            Expressed::Refused(cause, at) => Parsed::Refused(cause, at),
-            Expressed::Done(v, m, y, _, _) => parse_external_set(
-                source,
-                v,
-                Block::Specializer,
-                18,
-                start,
-                specialize_value(extend),
-                1,
-                records,
-                m,
-                texts,
-                y,
-            ),
-        },
-    }
+    let arrived = tokens::next(source, token);
+    let Arrived::At(u) = arrived else {
+        return Parsed::Refused(arrived.cause(), arrived.place());
+    };
+    let inside = expressions::braced(source, LEVELS, u, records, n, texts, x);
+    let Expressed::Done(v, m, y, _, _) = inside else {
+        return Parsed::Refused(inside.cause(), inside.place());
+    };
+    parse_external_set(
+        source,
+        v,
+        Block::Specializer,
+        18,
+        start,
+        specialize_value(extend),
+        1,
+        records,
+        m,
+        texts,
+        y,
+    )
 }
 
 // Whether the members of a scoped skip, from its brace on, hold a top rule: a pass that stores nothing.
@@ -308,13 +296,12 @@ fn parse_scoped(
         (lent n (now (records .entry)) x (now (texts .entry))) (now (records .exit)) (now (texts .exit)) r ⌝ }
 {
     let top = holds_top(source, token, n, x, records, texts);
-    match blocks::parse_block(source, Block::Skip, token, records, n, texts, x) {
-        Listed::Refused(cause, at) => Declared::Refused(cause, at),
-        Listed::Done(v, m, y, count) => {
-            let k = store::put_plain(records, m, 23, start, 0, 1 + count);
-            Declared::Done(v, k, y, 23, top)
-        }
-    }
+    let listed = blocks::parse_block(source, Block::Skip, token, records, n, texts, x);
+    let Listed::Done(v, m, y, count) = listed else {
+        return Declared::Refused(listed.cause(), listed.place());
+    };
+    let k = store::put_plain(records, m, 23, start, 0, 1 + count);
+    Declared::Done(v, k, y, 23, top)
 }
 
 // `@skip`, at its keyword: a second main one is refused once the token behind its braces is read.
@@ -331,20 +318,20 @@ pub fn parse_skip(
     ensures { λ r. ⌜ DeclaresTo (λ before. past (declares (parseSkipDeclaration (startIn token) before)) (stream (now (source .entry)) token)) seen (now (source .entry)) token
         (lent n (now (records .entry)) x (now (texts .entry))) (now (records .exit)) (now (texts .exit)) r ⌝ }
 {
-    match tokens::next(source, token) {
-        Arrived::Refused(cause, at) => Declared::Refused(cause, at),
-        Arrived::At(u) => match expressions::braced(source, LEVELS, u, records, n, texts, x) {
-            Expressed::Refused(cause, at) => Declared::Refused(cause, at),
-            Expressed::Done(v, m, y, p, _) => {
-                if tokens::mark(v) == 0x7B {
-                    return parse_scoped(source, v, p, records, m, texts, y);
-                }
-                if seen.skip {
-                    return Declared::Refused(Cause::SecondSkip, tokens::start(token));
-                }
-                let k = store::put_plain(records, m, 22, p, 0, 1);
-                Declared::Done(v, k, y, 22, false)
-            }
-        },
+    let arrived = tokens::next(source, token);
+    let Arrived::At(u) = arrived else {
+        return Declared::Refused(arrived.cause(), arrived.place());
+    };
+    let inside = expressions::braced(source, LEVELS, u, records, n, texts, x);
+    let Expressed::Done(v, m, y, p, _) = inside else {
+        return Declared::Refused(inside.cause(), inside.place());
+    };
+    if tokens::mark(v) == 0x7B {
+        return parse_scoped(source, v, p, records, m, texts, y);
     }
+    if seen.skip {
+        return Declared::Refused(Cause::SecondSkip, tokens::start(token));
+    }
+    let k = store::put_plain(records, m, 22, p, 0, 1);
+    Declared::Done(v, k, y, 22, false)
 }

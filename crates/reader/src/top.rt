@@ -40,13 +40,14 @@ fn parse_top(
     ensures { λ r. ⌜ Parses (past topAt (stream (now (source .entry)) token)) (nodesOf declarationBranch) (now (source .entry)) token
         (lent n (now (records .entry)) x (now (texts .entry))) (now (records .exit)) (now (texts .exit)) r ⌝ }
 {
-    match tokens::next(source, token) {
-        Arrived::Refused(cause, at) => Parsed::Refused(cause, at),
-        Arrived::At(u) => match tokens::name(u) {
-            Part::Nothing => Parsed::Refused(Cause::TopWithoutName, tokens::start(u)),
-            Part::From(_, _) => rules::parse_rule(source, u, 2, records, n, texts, x),
-        },
-    }
+    let arrived = tokens::next(source, token);
+    let Arrived::At(u) = arrived else {
+        return Parsed::Refused(arrived.cause(), arrived.place());
+    };
+    let Part::From(_, _) = tokens::name(u) else {
+        return Parsed::Refused(Cause::TopWithoutName, tokens::start(u));
+    };
+    rules::parse_rule(source, u, 2, records, n, texts, x)
 }
 
 // `@context`, at its keyword; a second one is refused there.
@@ -63,19 +64,18 @@ fn parse_context(
     ensures { λ r. ⌜ DeclaresTo (λ before. past (declares (parseContextDeclaration (startIn token) before)) (stream (now (source .entry)) token)) seen (now (source .entry)) token
         (lent n (now (records .entry)) x (now (texts .entry))) (now (records .exit)) (now (texts .exit)) r ⌝ }
 {
-    match tokens::next(source, token) {
-        Arrived::Refused(cause, at) => Declared::Refused(cause, at),
-        Arrived::At(u) => {
-            if seen.context {
-                return Declared::Refused(Cause::SecondContext, tokens::start(token));
-            }
-            directives::of_kind(
-                externals::parse_from(source, u, 14, tokens::start(token), records, n, texts, x),
-                14,
-                false,
-            )
-        }
+    let arrived = tokens::next(source, token);
+    let Arrived::At(u) = arrived else {
+        return Declared::Refused(arrived.cause(), arrived.place());
+    };
+    if seen.context {
+        return Declared::Refused(Cause::SecondContext, tokens::start(token));
     }
+    directives::of_kind(
+        externals::parse_from(source, u, 14, tokens::start(token), records, n, texts, x),
+        14,
+        false,
+    )
 }
 
 // `@external prop`, at `prop`; it starts at `start`.
@@ -93,14 +93,15 @@ fn parse_prop(
     ensures { λ r. ⌜ DeclaresTo (λ _. past (propAt start) (stream (now (source .entry)) token)) seen (now (source .entry)) token
         (lent n (now (records .entry)) x (now (texts .entry))) (now (records .exit)) (now (texts .exit)) r ⌝ }
 {
-    match tokens::next(source, token) {
-        Arrived::Refused(cause, at) => Declared::Refused(cause, at),
-        Arrived::At(u) => directives::of_kind(
-            externals::parse_external_prop(source, u, start, records, n, texts, x),
-            25,
-            false,
-        ),
-    }
+    let arrived = tokens::next(source, token);
+    let Arrived::At(u) = arrived else {
+        return Declared::Refused(arrived.cause(), arrived.place());
+    };
+    directives::of_kind(
+        externals::parse_external_prop(source, u, start, records, n, texts, x),
+        25,
+        false,
+    )
 }
 
 // `@external propSource`, at `propSource`; it starts at `start`.
@@ -117,10 +118,11 @@ fn parse_prop_source(
     ensures { λ r. ⌜ Parses (past (parseExternalPropSource start) (stream (now (source .entry)) token)) (nodesOf declarationBranch) (now (source .entry)) token
         (lent n (now (records .entry)) x (now (texts .entry))) (now (records .exit)) (now (texts .exit)) r ⌝ }
 {
-    match tokens::next(source, token) {
-        Arrived::Refused(cause, at) => Parsed::Refused(cause, at),
-        Arrived::At(u) => externals::parse_from(source, u, 19, start, records, n, texts, x),
-    }
+    let arrived = tokens::next(source, token);
+    let Arrived::At(u) = arrived else {
+        return Parsed::Refused(arrived.cause(), arrived.place());
+    };
+    externals::parse_from(source, u, 19, start, records, n, texts, x)
 }
 
 // After `@external`; it starts at `start`.
@@ -205,19 +207,11 @@ fn parse_external(
     ensures { λ r. ⌜ DeclaresTo (λ _. past (parseExternalDeclaration (startIn token)) (stream (now (source .entry)) token)) seen (now (source .entry)) token
         (lent n (now (records .entry)) x (now (texts .entry))) (now (records .exit)) (now (texts .exit)) r ⌝ }
 {
-    match tokens::next(source, token) {
-        Arrived::Refused(cause, at) => Declared::Refused(cause, at),
-        Arrived::At(u) => parse_external_declaration(
-            source,
-            u,
-            seen,
-            tokens::start(token),
-            records,
-            n,
-            texts,
-            x,
-        ),
-    }
+    let arrived = tokens::next(source, token);
+    let Arrived::At(u) = arrived else {
+        return Declared::Refused(arrived.cause(), arrived.place());
+    };
+    parse_external_declaration(source, u, seen, tokens::start(token), records, n, texts, x)
 }
 
 // `@dialects`, at its keyword: the names are read, and stored later if no other list replaces them.
@@ -234,15 +228,15 @@ fn parse_dialects(
     ensures { λ r. ⌜ DeclaresTo (λ _. past dialectsAt (stream (now (source .entry)) token)) seen (now (source .entry)) token
         (lent n (now (records .entry)) x (now (texts .entry))) (now (records .exit)) (now (texts .exit)) r ⌝ }
 {
-    match tokens::next(source, token) {
-        Arrived::Refused(cause, at) => Declared::Refused(cause, at),
-        Arrived::At(u) => {
-            match rules::parse_names(source, u, 24, &mut records[..0], n, &mut texts[..0], x) {
-                Listed::Refused(cause, at) => Declared::Refused(cause, at),
-                Listed::Done(v, _, _, _) => Declared::Done(v, n, x, 24, false),
-            }
-        }
-    }
+    let arrived = tokens::next(source, token);
+    let Arrived::At(u) = arrived else {
+        return Declared::Refused(arrived.cause(), arrived.place());
+    };
+    let listed = rules::parse_names(source, u, 24, &mut records[..0], n, &mut texts[..0], x);
+    let Listed::Done(v, _, _, _) = listed else {
+        return Declared::Refused(listed.cause(), listed.place());
+    };
+    Declared::Done(v, n, x, 24, false)
 }
 
 // `@detectDelim`, at its keyword.
@@ -250,10 +244,11 @@ fn parse_detect_delim(source: &[u8], token: Current, seen: Seen, n: usize, x: us
     requires { ⌜ Ready (now source) token n x × IsToken token ⌝ }
     ensures { λ r. ⌜ DeclaresAlone (λ _. past (pure detectDelim) (stream (now (source .entry)) token)) seen (now (source .entry)) token n x r ⌝ }
 {
-    match tokens::next(source, token) {
-        Arrived::Refused(cause, at) => Declared::Refused(cause, at),
-        Arrived::At(u) => Declared::Done(u, n, x, 1, false),
-    }
+    let arrived = tokens::next(source, token);
+    let Arrived::At(u) = arrived else {
+        return Declared::Refused(arrived.cause(), arrived.place());
+    };
+    Declared::Done(u, n, x, 1, false)
 }
 
 // A declaration that begins with a keyword. A second `@tokens` or `@precedence` is refused there.
@@ -335,12 +330,12 @@ pub fn parse_declaration(
     ensures { λ r. ⌜ DeclaresTo (λ before. parseDeclaration before (stream (now (source .entry)) token)) seen (now (source .entry)) token
         (lent n (now (records .entry)) x (now (texts .entry))) (now (records .exit)) (now (texts .exit)) r ⌝ }
 {
-    match tokens::at(token) {
-        Part::Nothing => directives::of_kind(
+    let Part::From(a, e) = tokens::at(token) else {
+        return directives::of_kind(
             rules::parse_rule(source, token, 3, records, n, texts, x),
             3,
             false,
-        ),
-        Part::From(a, e) => parse_directive(source, token, seen, a, e, records, n, texts, x),
-    }
+        );
+    };
+    parse_directive(source, token, seen, a, e, records, n, texts, x)
 }

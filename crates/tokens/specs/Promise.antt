@@ -13,6 +13,7 @@ use Rattle.lexer.specs.declared.Kind.{Kind}
 use Rattle.lexer.specs.declared.Kind.the-variants.{String, Set, Punctuation, Identifier}
 use Rattle.lexer.specs.declared.Kind.the-variants as K
 use Rattle.error.specs.declared.Cause.{Cause}
+use Rattle.error.specs.declared.Cause.the-variants.{UnexpectedToken}
 use Rattle.error.specs.Promise.{causeNumber}
 use Rattle.lexer.specs.Tokens as T
 use Rattle.lexer.specs.Tokens.{Tokens}
@@ -60,6 +61,23 @@ markOf (End p) = 0
 abbrev pub arrival : List ℕ → Arrived → Answer ℕ (Unit {0})
 arrival s (At t) = read tt (stream s t)
 arrival s (Refused c p) = refused (causeNumber c) p
+
+-- what a refusal says
+abbrev pub arrivedCause : Arrived → Cause
+arrivedCause (Refused c p) = c
+arrivedCause (At t) = UnexpectedToken
+
+abbrev pub arrivedPlace : Arrived → ℕ
+arrivedPlace (Refused c p) = p
+arrivedPlace (At t) = 0
+
+abbrev pub takenCause : Taken → Cause
+takenCause (G.Refused c p) = c
+takenCause (G.Got a e t) = UnexpectedToken
+
+abbrev pub takenPlace : Taken → ℕ
+takenPlace (G.Refused c p) = p
+takenPlace (G.Got a e t) = 0
 
 -- the current token lies in the text, from a place on
 abbrev pub LiesIn : List ℕ → ℕ → Current → Type 0

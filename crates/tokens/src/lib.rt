@@ -6,7 +6,7 @@ ghost use mathlib.Core.Path.{_≡_};
 ghost use Rattle.error.specs.Promise.{causeNumber};
 ghost use Rattle.lexer.specs.Promise.{tokensAt, number};
 ghost use Rattle.notation.specs.Parser.{arrive as arriveD, next as nextD};
-ghost use Rattle.tokens.specs.Promise.{stream, startIn, endIn, codeIn, markOf, arrival, Lies, Eats, Expects, namePart, atPart, nameOf, atOf, Whole, Says, EatsIf, EatsName, EatsAt, stringPart, stringOf, Takes, Identifies, TakesString};
+ghost use Rattle.tokens.specs.Promise.{arrivedCause, arrivedPlace, takenCause, takenPlace, stream, startIn, endIn, codeIn, markOf, arrival, Lies, Eats, Expects, namePart, atPart, nameOf, atOf, Whole, Says, EatsIf, EatsName, EatsAt, stringPart, stringOf, Takes, Identifies, TakesString};
 
 // The current token, with its start and end, or the end of the text. A token that the lexer refuses is never current: to
 // advance onto it is refused.
@@ -31,6 +31,47 @@ pub enum Eaten {
 pub enum Taken {
     Got(usize, usize, Current),
     Refused(Cause, usize),
+}
+
+// What an answer that is a refusal says: its cause, and its place. Any other has none, and nobody asks it.
+impl Arrived {
+    pub fn cause(self) -> Cause
+        ensures { λ r. ⌜ r ≡ arrivedCause self ⌝ }
+    {
+        match self {
+            Arrived::At(_) => Cause::UnexpectedToken,
+            Arrived::Refused(cause, _) => cause,
+        }
+    }
+
+    pub fn place(self) -> usize
+        ensures { λ r. ⌜ r ≡ arrivedPlace self ⌝ }
+    {
+        match self {
+            Arrived::At(_) => 0,
+            Arrived::Refused(_, at) => at,
+        }
+    }
+}
+
+impl Taken {
+    pub fn cause(self) -> Cause
+        ensures { λ r. ⌜ r ≡ takenCause self ⌝ }
+    {
+        match self {
+            Taken::Got(_, _, _) => Cause::UnexpectedToken,
+            Taken::Refused(cause, _) => cause,
+        }
+    }
+
+    pub fn place(self) -> usize
+        ensures { λ r. ⌜ r ≡ takenPlace self ⌝ }
+    {
+        match self {
+            Taken::Got(_, _, _) => 0,
+            Taken::Refused(_, at) => at,
+        }
+    }
 }
 
 // A part of the source, or none.

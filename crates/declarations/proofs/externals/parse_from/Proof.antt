@@ -1,5 +1,6 @@
 -- `externals::parse_from` meets its contract.
 -- Assumes nothing.
+use Rattle.tokens.proofs.Told.{taken-told}
 use borrow.Author.Needs.{needs}
 use native.Mathlib.Omega.{arith}
 use mathlib.Core.Path.{_≡_, refl, sym, _∙_}
@@ -12,50 +13,62 @@ use Rattle.declarations.proofs.externals.parse_from.Tie as tie
 parse-identifier-requires : tie.Need-parse-identifier-requires
 parse-identifier-requires c κs = search needs
 
-enum-known-cause : tie.Need-enum-known-cause
-enum-known-cause c = search needs
+enum-known-taken : tie.Need-enum-known-taken
+enum-known-taken c = search needs
 
-enum-known-a : tie.Need-enum-known-a
-enum-known-a c = search needs
+enum-told : tie.Need-enum-told
+enum-told c = search needs
 
-parse-source-requires : tie.Need-parse-source-requires
-parse-source-requires c κs = name-got _ _ (c .before .before .before .before .before .before .before .pre .0 .lies) (c .before .a .given .1) (c .before .before .before .parse-identifier .ensures) .1 .onward .lies
+cause-requires : tie.Need-cause-requires
+cause-requires c κs = search needs
 
-enum-known-cause-2 : tie.Need-enum-known-cause-2
-enum-known-cause-2 c = search needs
-
-enum-known-b : tie.Need-enum-known-b
-enum-known-b c = search needs
-
-sub-put-string : tie.Need-sub-put-string
-sub-put-string c = source-at _ _ _ (c .before .before .before .parse-source .ensures) (c .before .b .given .1) .part .forth
-
-part-put-string-start : tie.Need-part-put-string-start
-part-put-string-start c = source-at _ _ _ (c .before .before .before .parse-source .ensures) (c .before .b .given .1) .part .forth
-
-part-put-string-end : tie.Need-part-put-string-end
-part-put-string-end c = source-at _ _ _ (c .before .before .before .parse-source .ensures) (c .before .b .given .1) .part .inside
-
-put-string-requires : tie.Need-put-string-requires
-put-string-requires c κs = let w = from-small (c .before .before .before .before .before .before .before .before .before .before .before .before .before .before .pre .0) in short-asks (c .before .before .before .before .before .before .before .before .before .before .before .before .before .before .pre .0 .small) (part-short _ (source-at _ _ _ (c .before .before .before .before .before .before .parse-source .ensures) (c .before .before .before .before .b .given .1) .part)) (omega arith) (omega arith) (let k = w .0 in omega arith) (let k = w .1 in omega arith)
-
-sub-put-named : tie.Need-sub-put-named
-sub-put-named c = name-got _ _ (c .before .before .before .before .before .before .before .before .before .before .before .before .before .before .before .before .before .before .before .pre .0 .lies) (c .before .before .before .before .before .before .before .before .before .before .before .before .before .a .given .1) (c .before .before .before .before .before .before .before .before .before .before .before .before .before .before .before .parse-identifier .ensures) .0 .part .forth
-
-part-put-named-start : tie.Need-part-put-named-start
-part-put-named-start c = name-got _ _ (c .before .before .before .before .before .before .before .before .before .before .before .before .before .before .before .before .before .before .before .pre .0 .lies) (c .before .before .before .before .before .before .before .before .before .before .before .before .before .a .given .1) (c .before .before .before .before .before .before .before .before .before .before .before .before .before .before .before .parse-identifier .ensures) .0 .part .forth
-
-part-put-named-end : tie.Need-part-put-named-end
-part-put-named-end c = name-got _ _ (c .before .before .before .before .before .before .before .before .before .before .before .before .before .before .before .before .before .before .before .pre .0 .lies) (c .before .before .before .before .before .before .before .before .before .before .before .before .before .a .given .1) (c .before .before .before .before .before .before .before .before .before .before .before .before .before .before .before .parse-identifier .ensures) .0 .part .inside
-
-put-named-requires : tie.Need-put-named-requires
-put-named-requires c κs = let g = source-at _ _ _ (c .before .before .before .before .before .before .before .before .before .before .before .before .before .before .parse-source .ensures) (c .before .before .before .before .before .before .before .before .before .before .before .before .b .given .1) in let w = source-next (g .part) (c .before .before .before .before .before .before .before .put-string .ensures .0) (c .before .before .before .before .before .before .before .put-string .ensures .1) (c .before .before .before .before .before .before .before .before .before .before .before .before .before .before .before .before .before .before .before .before .before .before .pre .0) in short-asks (c .before .before .before .before .before .before .before .before .before .before .before .before .before .before .before .before .before .before .before .before .before .before .pre .0 .small) (part-short _ (name-got _ _ (c .before .before .before .before .before .before .before .before .before .before .before .before .before .before .before .before .before .before .before .before .before .before .pre .0 .lies) (c .before .before .before .before .before .before .before .before .before .before .before .before .before .before .before .before .a .given .1) (c .before .before .before .before .before .before .before .before .before .before .before .before .before .before .before .before .before .before .parse-identifier .ensures) .0 .part)) (c .before .before .before .before .before .before .before .before .before .before .before .before .before .before .before .before .before .before .before .before .before .before .pre .1) (omega arith) (w .0) (w .1)
+place-requires : tie.Need-place-requires
+place-requires c κs = search needs
 
 returns : tie.Need-returns
-returns c = from-name _ (taken-not _ _ _ (c .before .before .before .parse-identifier .ensures .takes) (c .before .cause .given .1))
+returns c = from-name _ (taken-not _ _ _ (c .before .before .before .before .parse-identifier .ensures .takes) (taken-told (c .before .before .enum-told .given .1) (c .before .cause .ensures) (c .place .ensures)))
+
+parse-source-requires : tie.Need-parse-source-requires
+parse-source-requires c κs = name-got _ _ (c .before .before .before .before .before .before .before .pre .0 .lies) (c .before .taken .given .1) (c .before .before .before .parse-identifier .ensures) .1 .onward .lies
+
+enum-known-sourced : tie.Need-enum-known-sourced
+enum-known-sourced c = search needs
+
+enum-told-2 : tie.Need-enum-told-2
+enum-told-2 c = search needs
+
+cause-requires-2 : tie.Need-cause-requires-2
+cause-requires-2 c κs = search needs
+
+place-requires-2 : tie.Need-place-requires-2
+place-requires-2 c κs = search needs
 
 returns-2 : tie.Need-returns-2
-returns-2 c = from-source _ (taken-at _ _ _ (c .before .before .before .before .before .before .before .parse-identifier .ensures .takes) (c .before .before .before .before .before .a .given .1)) (source-not _ _ _ (c .before .before .before .parse-source .ensures) (c .before .cause2 .given .1))
+returns-2 c = from-source _ (taken-at _ _ _ (c .before .before .before .before .before .before .before .before .parse-identifier .ensures .takes) (c .before .before .before .before .before .before .taken .given .1)) (source-not _ _ _ (c .before .before .before .before .parse-source .ensures) (taken-told (c .before .before .enum-told2 .given .1) (c .before .cause2 .ensures) (c .place2 .ensures)))
+
+sub-put-string : tie.Need-sub-put-string
+sub-put-string c = source-at _ _ _ (c .before .before .before .parse-source .ensures) (c .before .sourced .given .1) .part .forth
+
+part-put-string-start : tie.Need-part-put-string-start
+part-put-string-start c = source-at _ _ _ (c .before .before .before .parse-source .ensures) (c .before .sourced .given .1) .part .forth
+
+part-put-string-end : tie.Need-part-put-string-end
+part-put-string-end c = source-at _ _ _ (c .before .before .before .parse-source .ensures) (c .before .sourced .given .1) .part .inside
+
+put-string-requires : tie.Need-put-string-requires
+put-string-requires c κs = let w = from-small (c .before .before .before .before .before .before .before .before .before .before .before .before .before .before .pre .0) in short-asks (c .before .before .before .before .before .before .before .before .before .before .before .before .before .before .pre .0 .small) (part-short _ (source-at _ _ _ (c .before .before .before .before .before .before .parse-source .ensures) (c .before .before .before .before .sourced .given .1) .part)) (omega arith) (omega arith) (let k = w .0 in omega arith) (let k = w .1 in omega arith)
+
+sub-put-named : tie.Need-sub-put-named
+sub-put-named c = name-got _ _ (c .before .before .before .before .before .before .before .before .before .before .before .before .before .before .before .before .before .before .before .pre .0 .lies) (c .before .before .before .before .before .before .before .before .before .before .before .before .before .taken .given .1) (c .before .before .before .before .before .before .before .before .before .before .before .before .before .before .before .parse-identifier .ensures) .0 .part .forth
+
+part-put-named-start : tie.Need-part-put-named-start
+part-put-named-start c = name-got _ _ (c .before .before .before .before .before .before .before .before .before .before .before .before .before .before .before .before .before .before .before .pre .0 .lies) (c .before .before .before .before .before .before .before .before .before .before .before .before .before .taken .given .1) (c .before .before .before .before .before .before .before .before .before .before .before .before .before .before .before .parse-identifier .ensures) .0 .part .forth
+
+part-put-named-end : tie.Need-part-put-named-end
+part-put-named-end c = name-got _ _ (c .before .before .before .before .before .before .before .before .before .before .before .before .before .before .before .before .before .before .before .pre .0 .lies) (c .before .before .before .before .before .before .before .before .before .before .before .before .before .taken .given .1) (c .before .before .before .before .before .before .before .before .before .before .before .before .before .before .before .parse-identifier .ensures) .0 .part .inside
+
+put-named-requires : tie.Need-put-named-requires
+put-named-requires c κs = let g = source-at _ _ _ (c .before .before .before .before .before .before .before .before .before .before .before .before .before .before .parse-source .ensures) (c .before .before .before .before .before .before .before .before .before .before .before .before .sourced .given .1) in let w = source-next (g .part) (c .before .before .before .before .before .before .before .put-string .ensures .0) (c .before .before .before .before .before .before .before .put-string .ensures .1) (c .before .before .before .before .before .before .before .before .before .before .before .before .before .before .before .before .before .before .before .before .before .before .pre .0) in short-asks (c .before .before .before .before .before .before .before .before .before .before .before .before .before .before .before .before .before .before .before .before .before .before .pre .0 .small) (part-short _ (name-got _ _ (c .before .before .before .before .before .before .before .before .before .before .before .before .before .before .before .before .before .before .before .before .before .before .pre .0 .lies) (c .before .before .before .before .before .before .before .before .before .before .before .before .before .before .before .before .taken .given .1) (c .before .before .before .before .before .before .before .before .before .before .before .before .before .before .before .before .before .before .parse-identifier .ensures) .0 .part)) (c .before .before .before .before .before .before .before .before .before .before .before .before .before .before .before .before .before .before .before .before .before .before .pre .1) (omega arith) (w .0) (w .1)
 
 same-length : tie.Need-same-length
 same-length c = search needs
@@ -64,18 +77,24 @@ same-length-2 : tie.Need-same-length-2
 same-length-2 c = search needs
 
 returns-3 : tie.Need-returns-3
-returns-3 c = from-given (c .before .before .before .before .before .before .before .before .before .before .before .before .before .before .before .before .before .before .before .before .before .before .before .before .before .before .before .args .kind) _ (c .before .before .before .before .before .before .before .before .before .before .before .before .before .before .before .before .before .before .before .before .before .before .before .before .before .before .before .pre .0 .lies) (c .before .before .before .before .before .before .before .before .before .before .before .before .before .before .before .before .before .before .before .before .before .before .before .parse-identifier .ensures) (c .before .before .before .before .before .before .before .before .before .before .before .before .before .before .before .before .before .before .before .before .before .a .given .1) (source-at _ _ _ (c .before .before .before .before .before .before .before .before .before .before .before .before .before .before .before .before .before .before .before .parse-source .ensures) (c .before .before .before .before .before .before .before .before .before .before .before .before .before .before .before .before .before .b .given .1)) (source-few (source-at _ _ _ (c .before .before .before .before .before .before .before .before .before .before .before .before .before .before .before .before .before .before .before .parse-source .ensures) (c .before .before .before .before .before .before .before .before .before .before .before .before .before .before .before .before .before .b .given .1) .part) (c .before .before .before .before .before .before .before .before .before .before .before .before .put-string .ensures .0) (c .before .before .before .before .before .before .before .before .before .before .before .before .put-string .ensures .1)) (c .before .before .before .before .before .before .before .before .before .before .before .before .put-string .ensures .0) (c .before .before .before .before .put-named .ensures)
+returns-3 c = from-given (c .before .before .before .before .before .before .before .before .before .before .before .before .before .before .before .before .before .before .before .before .before .before .before .before .before .before .before .args .kind) _ (c .before .before .before .before .before .before .before .before .before .before .before .before .before .before .before .before .before .before .before .before .before .before .before .before .before .before .before .pre .0 .lies) (c .before .before .before .before .before .before .before .before .before .before .before .before .before .before .before .before .before .before .before .before .before .before .before .parse-identifier .ensures) (c .before .before .before .before .before .before .before .before .before .before .before .before .before .before .before .before .before .before .before .before .before .taken .given .1) (source-at _ _ _ (c .before .before .before .before .before .before .before .before .before .before .before .before .before .before .before .before .before .before .before .parse-source .ensures) (c .before .before .before .before .before .before .before .before .before .before .before .before .before .before .before .before .before .sourced .given .1)) (source-few (source-at _ _ _ (c .before .before .before .before .before .before .before .before .before .before .before .before .before .before .before .before .before .before .before .parse-source .ensures) (c .before .before .before .before .before .before .before .before .before .before .before .before .before .before .before .before .before .sourced .given .1) .part) (c .before .before .before .before .before .before .before .before .before .before .before .before .put-string .ensures .0) (c .before .before .before .before .before .before .before .before .before .before .before .before .put-string .ensures .1)) (c .before .before .before .before .before .before .before .before .before .before .before .before .put-string .ensures .0) (c .before .before .before .before .put-named .ensures)
 
 pub parse-from-spec : {M : Type 1} → statement M
 parse-from-spec =
     tie.close
     (tie.spec
     parse-identifier-requires
-    enum-known-cause
-    enum-known-a
+    enum-known-taken
+    enum-told
+    cause-requires
+    place-requires
+    returns
     parse-source-requires
-    enum-known-cause-2
-    enum-known-b
+    enum-known-sourced
+    enum-told-2
+    cause-requires-2
+    place-requires-2
+    returns-2
     sub-put-string
     part-put-string-start
     part-put-string-end
@@ -84,8 +103,6 @@ parse-from-spec =
     part-put-named-start
     part-put-named-end
     put-named-requires
-    returns
-    returns-2
     same-length
     same-length-2
     returns-3)

@@ -5,6 +5,8 @@ use Rattle.tree.specs.Stored.{propBranch}
 use Rattle.parser.proofs.Ready.{ready-step, ready-on, string-in, put-asks, part-short, lists-small, arrived-at, arrived-not}
 use Rattle.parser.proofs.Openings.{listed, listed-not}
 use Rattle.declarations.proofs.RuleReads.{literal-next, literal-props, literal-on, literal-given}
+use Rattle.tokens.proofs.Told.{arrived-told}
+use Rattle.parser.proofs.Told.{listed-told}
 use borrow.Author.Needs.{needs}
 use Rattle.declarations.proofs.rules.parse_literal.Statement.{statement}
 use Rattle.declarations.proofs.rules.parse_literal.Tie as tie
@@ -12,20 +14,44 @@ use Rattle.declarations.proofs.rules.parse_literal.Tie as tie
 next-requires : tie.Need-next-requires
 next-requires c κs = search needs
 
-enum-known-cause : tie.Need-enum-known-cause
-enum-known-cause c = search needs
+enum-known-arrived : tie.Need-enum-known-arrived
+enum-known-arrived c = search needs
 
-enum-known-u : tie.Need-enum-known-u
-enum-known-u c = search needs
+enum-told : tie.Need-enum-told
+enum-told c = search needs
+
+cause-requires : tie.Need-cause-requires
+cause-requires c κs = search needs
+
+place-requires : tie.Need-place-requires
+place-requires c κs = search needs
+
+returns : tie.Need-returns
+returns c = literal-next _ _ _ (arrived-not _ _ (c .before .before .before .before .next .ensures .0) (arrived-told (c .before .before .enum-told .given .1) (c .before .cause .ensures) (c .place .ensures)))
 
 parse-props-requires : tie.Need-parse-props-requires
-parse-props-requires c κs = ready-step (c .before .before .before .before .before .before .before .before .before .pre .0) (literal-on _ _ (c .before .before .before .before .before .before .before .before .before .pre .0) (c .before .before .before .before .before .before .before .before .before .pre .1) _ (c .before .before .before .before .before .next .ensures) (c .before .before .before .u .given .1))
+parse-props-requires c κs = ready-step (c .before .before .before .before .before .before .before .before .before .pre .0) (literal-on _ _ (c .before .before .before .before .before .before .before .before .before .pre .0) (c .before .before .before .before .before .before .before .before .before .pre .1) _ (c .before .before .before .before .before .next .ensures) (c .before .before .before .arrived .given .1))
 
-enum-known-cause-2 : tie.Need-enum-known-cause-2
-enum-known-cause-2 c = search needs
+enum-known-listed : tie.Need-enum-known-listed
+enum-known-listed c = search needs
 
-enum-known-v : tie.Need-enum-known-v
-enum-known-v c = search needs
+enum-told-2 : tie.Need-enum-told-2
+enum-told-2 c = search needs
+
+cause-requires-2 : tie.Need-cause-requires-2
+cause-requires-2 c κs = search needs
+
+place-requires-2 : tie.Need-place-requires-2
+place-requires-2 c κs = search needs
+
+same-length : tie.Need-same-length
+same-length c = search needs
+
+same-length-2 : tie.Need-same-length-2
+same-length-2 c = search needs
+
+returns-2 : tie.Need-returns-2
+returns-2 c = literal-props _ _ _ (arrived-at _ _ (c .before .before .before .before .before .before .before .before .before .before .before .before .before .before .next .ensures .0) (c .before .before .before .before .before .before .before .before .before .before .before .before .arrived .given .1)) (listed-not _ _ _ _ _ _ _ _ _ (c .before .before .before .before .before .before .before .before .parse-props .ensures) (listed-told (c .before .before .enum-told2 .given .1) (c .before .cause2 .ensures) (c .place2 .ensures)))
 
 sub-put-string : tie.Need-sub-put-string
 sub-put-string c = string-in (c .before .before .before .before .before .before .before .before .before .before .before .before .before .before .before .before .before .pre .0) (c .before .before .before .before .before .before .before .before .before .before .before .before .before .before .before .before .before .pre .1) .part .forth
@@ -40,19 +66,7 @@ start-requires : tie.Need-start-requires
 start-requires c κs = search needs
 
 put-string-requires : tie.Need-put-string-requires
-put-string-requires c κs = let l = (listed _ _ _ _ _ _ _ _ _ (c .before .before .before .before .before .before .before .before .before .before .before .parse-props .ensures) (c .before .before .before .before .before .v .given .1)) in put-asks (c .before .before .before .before .before .before .before .before .before .before .before .before .before .before .before .before .before .before .before .before .before .pre .0) (ready-on (ready-step (c .before .before .before .before .before .before .before .before .before .before .before .before .before .before .before .before .before .before .before .before .before .pre .0) (literal-on _ _ (c .before .before .before .before .before .before .before .before .before .before .before .before .before .before .before .before .before .before .before .before .before .pre .0) (c .before .before .before .before .before .before .before .before .before .before .before .before .before .before .before .before .before .before .before .before .before .pre .1) _ (c .before .before .before .before .before .before .before .before .before .before .before .before .before .before .before .before .before .next .ensures) (c .before .before .before .before .before .before .before .before .before .before .before .before .before .before .before .u .given .1))) (l .onward) (l .lays)) (c .before .before .start .ensures) (omega (arith, lists-small propBranch l (c .before .before .before .before .before .before .before .before .before .before .before .before .before .before .before .before .before .before .before .before .before .pre .0 .small))) (part-short _ (string-in (c .before .before .before .before .before .before .before .before .before .before .before .before .before .before .before .before .before .before .before .before .before .pre .0) (c .before .before .before .before .before .before .before .before .before .before .before .before .before .before .before .before .before .before .before .before .before .pre .1) .part))
-
-returns : tie.Need-returns
-returns c = literal-next _ _ _ (arrived-not _ _ (c .before .before .before .next .ensures .0) (c .before .cause .given .1))
-
-same-length : tie.Need-same-length
-same-length c = search needs
-
-same-length-2 : tie.Need-same-length-2
-same-length-2 c = search needs
-
-returns-2 : tie.Need-returns-2
-returns-2 c = literal-props _ _ _ (arrived-at _ _ (c .before .before .before .before .before .before .before .before .before .before .before .before .before .next .ensures .0) (c .before .before .before .before .before .before .before .before .before .before .before .u .given .1)) (listed-not _ _ _ _ _ _ _ _ _ (c .before .before .before .before .before .before .before .parse-props .ensures) (c .before .cause2 .given .1))
+put-string-requires c κs = let l = (listed _ _ _ _ _ _ _ _ _ (c .before .before .before .before .before .before .before .before .before .before .before .parse-props .ensures) (c .before .before .before .before .before .listed .given .1)) in put-asks (c .before .before .before .before .before .before .before .before .before .before .before .before .before .before .before .before .before .before .before .before .before .pre .0) (ready-on (ready-step (c .before .before .before .before .before .before .before .before .before .before .before .before .before .before .before .before .before .before .before .before .before .pre .0) (literal-on _ _ (c .before .before .before .before .before .before .before .before .before .before .before .before .before .before .before .before .before .before .before .before .before .pre .0) (c .before .before .before .before .before .before .before .before .before .before .before .before .before .before .before .before .before .before .before .before .before .pre .1) _ (c .before .before .before .before .before .before .before .before .before .before .before .before .before .before .before .before .before .next .ensures) (c .before .before .before .before .before .before .before .before .before .before .before .before .before .before .before .arrived .given .1))) (l .onward) (l .lays)) (c .before .before .start .ensures) (omega (arith, lists-small propBranch l (c .before .before .before .before .before .before .before .before .before .before .before .before .before .before .before .before .before .before .before .before .before .pre .0 .small))) (part-short _ (string-in (c .before .before .before .before .before .before .before .before .before .before .before .before .before .before .before .before .before .before .before .before .before .pre .0) (c .before .before .before .before .before .before .before .before .before .before .before .before .before .before .before .before .before .before .before .before .before .pre .1) .part))
 
 same-length-3 : tie.Need-same-length-3
 same-length-3 c = search needs
@@ -61,27 +75,31 @@ same-length-4 : tie.Need-same-length-4
 same-length-4 c = search needs
 
 returns-3 : tie.Need-returns-3
-returns-3 c = literal-given _ _ (c .before .before .before .before .before .before .before .before .before .before .before .before .before .before .before .before .before .before .before .before .before .before .before .before .before .before .pre .0) (c .before .before .before .before .before .before .before .before .before .before .before .before .before .before .before .before .before .before .before .before .before .before .before .before .before .before .pre .1) _ (c .before .before .before .before .before .before .before .before .before .before .before .before .before .before .before .before .before .before .before .before .before .before .next .ensures) (c .before .before .before .before .before .before .before .before .before .before .before .before .before .before .before .before .before .before .before .before .u .given .1) (listed _ _ _ _ _ _ _ _ _ (c .before .before .before .before .before .before .before .before .before .before .before .before .before .before .before .before .parse-props .ensures) (c .before .before .before .before .before .before .before .before .before .before .v .given .1)) (c .before .before .before .before .before .before .before .start .ensures) (c .before .before .before .before .put-string .ensures)
+returns-3 c = literal-given _ _ (c .before .before .before .before .before .before .before .before .before .before .before .before .before .before .before .before .before .before .before .before .before .before .before .before .before .before .pre .0) (c .before .before .before .before .before .before .before .before .before .before .before .before .before .before .before .before .before .before .before .before .before .before .before .before .before .before .pre .1) _ (c .before .before .before .before .before .before .before .before .before .before .before .before .before .before .before .before .before .before .before .before .before .before .next .ensures) (c .before .before .before .before .before .before .before .before .before .before .before .before .before .before .before .before .before .before .before .before .arrived .given .1) (listed _ _ _ _ _ _ _ _ _ (c .before .before .before .before .before .before .before .before .before .before .before .before .before .before .before .before .parse-props .ensures) (c .before .before .before .before .before .before .before .before .before .before .listed .given .1)) (c .before .before .before .before .before .before .before .start .ensures) (c .before .before .before .before .put-string .ensures)
 
 pub parse-literal-spec : {M : Type 1} → statement M
 parse-literal-spec =
     tie.close
     (tie.spec
     next-requires
-    enum-known-cause
-    enum-known-u
+    enum-known-arrived
+    enum-told
+    cause-requires
+    place-requires
+    returns
     parse-props-requires
-    enum-known-cause-2
-    enum-known-v
+    enum-known-listed
+    enum-told-2
+    cause-requires-2
+    place-requires-2
+    same-length
+    same-length-2
+    returns-2
     sub-put-string
     part-put-string-start
     part-put-string-end
     start-requires
     put-string-requires
-    returns
-    same-length
-    same-length-2
-    returns-2
     same-length-3
     same-length-4
     returns-3)

@@ -3,6 +3,7 @@
 use native.Mathlib.Omega.{arith}
 use Rattle.parser.proofs.Ready.{name-got, put-asks, part-short, taken-not}
 use Rattle.parser.proofs.HeadRules.{name-given}
+use Rattle.tokens.proofs.Told.{taken-told}
 use borrow.Author.Needs.{needs}
 use Rattle.declarations.proofs.rules.parse_name.Statement.{statement}
 use Rattle.declarations.proofs.rules.parse_name.Tie as tie
@@ -10,29 +11,35 @@ use Rattle.declarations.proofs.rules.parse_name.Tie as tie
 parse-identifier-requires : tie.Need-parse-identifier-requires
 parse-identifier-requires c κs = search needs
 
-enum-known-cause : tie.Need-enum-known-cause
-enum-known-cause c = search needs
+enum-known-taken : tie.Need-enum-known-taken
+enum-known-taken c = search needs
 
-enum-known-a : tie.Need-enum-known-a
-enum-known-a c = search needs
+enum-told : tie.Need-enum-told
+enum-told c = search needs
+
+cause-requires : tie.Need-cause-requires
+cause-requires c κs = search needs
+
+place-requires : tie.Need-place-requires
+place-requires c κs = search needs
+
+returns : tie.Need-returns
+returns c = taken-not _ _ _ (c .before .before .before .before .parse-identifier .ensures .takes) (taken-told (c .before .before .enum-told .given .1) (c .before .cause .ensures) (c .place .ensures))
 
 sub-put-named : tie.Need-sub-put-named
-sub-put-named c = name-got _ _ (c .before .before .before .before .before .before .before .pre .lies) (c .before .a .given .1) (c .before .before .before .parse-identifier .ensures) .0 .part .forth
+sub-put-named c = name-got _ _ (c .before .before .before .before .before .before .before .pre .lies) (c .before .taken .given .1) (c .before .before .before .parse-identifier .ensures) .0 .part .forth
 
 part-put-named-start : tie.Need-part-put-named-start
-part-put-named-start c = name-got _ _ (c .before .before .before .before .before .before .before .pre .lies) (c .before .a .given .1) (c .before .before .before .parse-identifier .ensures) .0 .part .forth
+part-put-named-start c = name-got _ _ (c .before .before .before .before .before .before .before .pre .lies) (c .before .taken .given .1) (c .before .before .before .parse-identifier .ensures) .0 .part .forth
 
 part-put-named-end : tie.Need-part-put-named-end
-part-put-named-end c = name-got _ _ (c .before .before .before .before .before .before .before .pre .lies) (c .before .a .given .1) (c .before .before .before .parse-identifier .ensures) .0 .part .inside
+part-put-named-end c = name-got _ _ (c .before .before .before .before .before .before .before .pre .lies) (c .before .taken .given .1) (c .before .before .before .parse-identifier .ensures) .0 .part .inside
 
 start-requires : tie.Need-start-requires
 start-requires c κs = search needs
 
 put-named-requires : tie.Need-put-named-requires
-put-named-requires c κs = put-asks (c .before .before .before .before .before .before .before .before .before .before .before .pre) (c .before .before .before .before .before .before .before .before .before .before .before .pre) (c .before .before .start .ensures) (omega arith) (part-short _ (name-got _ _ (c .before .before .before .before .before .before .before .before .before .before .before .pre .lies) (c .before .before .before .before .before .a .given .1) (c .before .before .before .before .before .before .before .parse-identifier .ensures) .0 .part))
-
-returns : tie.Need-returns
-returns c = taken-not _ _ _ (c .before .before .before .parse-identifier .ensures .takes) (c .before .cause .given .1)
+put-named-requires c κs = put-asks (c .before .before .before .before .before .before .before .before .before .before .before .pre) (c .before .before .before .before .before .before .before .before .before .before .before .pre) (c .before .before .start .ensures) (omega arith) (part-short _ (name-got _ _ (c .before .before .before .before .before .before .before .before .before .before .before .pre .lies) (c .before .before .before .before .before .taken .given .1) (c .before .before .before .before .before .before .before .parse-identifier .ensures) .0 .part))
 
 same-length : tie.Need-same-length
 same-length c = search needs
@@ -41,21 +48,23 @@ same-length-2 : tie.Need-same-length-2
 same-length-2 c = search needs
 
 returns-2 : tie.Need-returns-2
-returns-2 c = name-given _ _ _ (c .before .before .before .before .before .before .before .before .before .before .before .before .before .before .before .before .pre .lies) _ (c .before .before .before .before .before .before .before .before .before .before .before .before .parse-identifier .ensures) (c .before .before .before .before .before .before .before .before .before .before .a .given .1) (c .before .before .before .before .before .before .before .start .ensures) (c .before .before .before .before .put-named .ensures)
+returns-2 c = name-given _ _ _ (c .before .before .before .before .before .before .before .before .before .before .before .before .before .before .before .before .pre .lies) _ (c .before .before .before .before .before .before .before .before .before .before .before .before .parse-identifier .ensures) (c .before .before .before .before .before .before .before .before .before .before .taken .given .1) (c .before .before .before .before .before .before .before .start .ensures) (c .before .before .before .before .put-named .ensures)
 
 pub parse-name-spec : {M : Type 1} → statement M
 parse-name-spec =
     tie.close
     (tie.spec
     parse-identifier-requires
-    enum-known-cause
-    enum-known-a
+    enum-known-taken
+    enum-told
+    cause-requires
+    place-requires
+    returns
     sub-put-named
     part-put-named-start
     part-put-named-end
     start-requires
     put-named-requires
-    returns
     same-length
     same-length-2
     returns-2)

@@ -5,6 +5,8 @@ use Rattle.tree.specs.Stored.{propBranch}
 use Rattle.parser.proofs.Ready.{ready-step, ready-on, name-got, put-asks, part-short, lists-small, taken-at, taken-not}
 use Rattle.parser.proofs.Openings.{listed, listed-not}
 use Rattle.declarations.proofs.RuleReads.{node-name, node-props, node-given}
+use Rattle.tokens.proofs.Told.{taken-told}
+use Rattle.parser.proofs.Told.{listed-told}
 use borrow.Author.Needs.{needs}
 use Rattle.declarations.proofs.rules.parse_named_node.Statement.{statement}
 use Rattle.declarations.proofs.rules.parse_named_node.Tie as tie
@@ -12,38 +14,35 @@ use Rattle.declarations.proofs.rules.parse_named_node.Tie as tie
 parse-identifier-requires : tie.Need-parse-identifier-requires
 parse-identifier-requires c κs = search needs
 
-enum-known-cause : tie.Need-enum-known-cause
-enum-known-cause c = search needs
+enum-known-taken : tie.Need-enum-known-taken
+enum-known-taken c = search needs
 
-enum-known-a : tie.Need-enum-known-a
-enum-known-a c = search needs
+enum-told : tie.Need-enum-told
+enum-told c = search needs
 
-parse-props-requires : tie.Need-parse-props-requires
-parse-props-requires c κs = ready-step (c .before .before .before .before .before .before .before .before .before .pre) (name-got _ _ (c .before .before .before .before .before .before .before .before .before .pre .lies) (c .before .before .before .a .given .1) (c .before .before .before .before .before .parse-identifier .ensures) .1 .onward)
+cause-requires : tie.Need-cause-requires
+cause-requires c κs = search needs
 
-enum-known-cause-2 : tie.Need-enum-known-cause-2
-enum-known-cause-2 c = search needs
-
-enum-known-v : tie.Need-enum-known-v
-enum-known-v c = search needs
-
-sub-put-named : tie.Need-sub-put-named
-sub-put-named c = name-got _ _ (c .before .before .before .before .before .before .before .before .before .before .before .before .before .before .before .before .before .pre .lies) (c .before .before .before .before .before .before .before .before .before .before .before .a .given .1) (c .before .before .before .before .before .before .before .before .before .before .before .before .before .parse-identifier .ensures) .0 .part .forth
-
-part-put-named-start : tie.Need-part-put-named-start
-part-put-named-start c = name-got _ _ (c .before .before .before .before .before .before .before .before .before .before .before .before .before .before .before .before .before .pre .lies) (c .before .before .before .before .before .before .before .before .before .before .before .a .given .1) (c .before .before .before .before .before .before .before .before .before .before .before .before .before .parse-identifier .ensures) .0 .part .forth
-
-part-put-named-end : tie.Need-part-put-named-end
-part-put-named-end c = name-got _ _ (c .before .before .before .before .before .before .before .before .before .before .before .before .before .before .before .before .before .pre .lies) (c .before .before .before .before .before .before .before .before .before .before .before .a .given .1) (c .before .before .before .before .before .before .before .before .before .before .before .before .before .parse-identifier .ensures) .0 .part .inside
-
-start-requires : tie.Need-start-requires
-start-requires c κs = search needs
-
-put-named-requires : tie.Need-put-named-requires
-put-named-requires c κs = let n = name-got _ _ (c .before .before .before .before .before .before .before .before .before .before .before .before .before .before .before .before .before .before .before .before .before .pre .lies) (c .before .before .before .before .before .before .before .before .before .before .before .before .before .before .before .a .given .1) (c .before .before .before .before .before .before .before .before .before .before .before .before .before .before .before .before .before .parse-identifier .ensures) in let l = (listed _ _ _ _ _ _ _ _ _ (c .before .before .before .before .before .before .before .before .before .before .before .parse-props .ensures) (c .before .before .before .before .before .v .given .1)) in put-asks (c .before .before .before .before .before .before .before .before .before .before .before .before .before .before .before .before .before .before .before .before .before .pre) (ready-on (ready-step (c .before .before .before .before .before .before .before .before .before .before .before .before .before .before .before .before .before .before .before .before .before .pre) (n .1 .onward)) (l .onward) (l .lays)) (c .before .before .start .ensures) (omega (arith, lists-small propBranch l (c .before .before .before .before .before .before .before .before .before .before .before .before .before .before .before .before .before .before .before .before .before .pre .small))) (part-short _ (n .0 .part))
+place-requires : tie.Need-place-requires
+place-requires c κs = search needs
 
 returns : tie.Need-returns
-returns c = node-name _ (taken-not _ _ _ (c .before .before .before .parse-identifier .ensures .takes) (c .before .cause .given .1))
+returns c = node-name _ (taken-not _ _ _ (c .before .before .before .before .parse-identifier .ensures .takes) (taken-told (c .before .before .enum-told .given .1) (c .before .cause .ensures) (c .place .ensures)))
+
+parse-props-requires : tie.Need-parse-props-requires
+parse-props-requires c κs = ready-step (c .before .before .before .before .before .before .before .before .before .pre) (name-got _ _ (c .before .before .before .before .before .before .before .before .before .pre .lies) (c .before .before .before .taken .given .1) (c .before .before .before .before .before .parse-identifier .ensures) .1 .onward)
+
+enum-known-listed : tie.Need-enum-known-listed
+enum-known-listed c = search needs
+
+enum-told-2 : tie.Need-enum-told-2
+enum-told-2 c = search needs
+
+cause-requires-2 : tie.Need-cause-requires-2
+cause-requires-2 c κs = search needs
+
+place-requires-2 : tie.Need-place-requires-2
+place-requires-2 c κs = search needs
 
 same-length : tie.Need-same-length
 same-length c = search needs
@@ -52,7 +51,22 @@ same-length-2 : tie.Need-same-length-2
 same-length-2 c = search needs
 
 returns-2 : tie.Need-returns-2
-returns-2 c = node-props _ (taken-at _ _ _ (c .before .before .before .before .before .before .before .before .before .before .before .before .before .parse-identifier .ensures .takes) (c .before .before .before .before .before .before .before .before .before .before .before .a .given .1)) (listed-not _ _ _ _ _ _ _ _ _ (c .before .before .before .before .before .before .before .parse-props .ensures) (c .before .cause2 .given .1))
+returns-2 c = node-props _ (taken-at _ _ _ (c .before .before .before .before .before .before .before .before .before .before .before .before .before .before .parse-identifier .ensures .takes) (c .before .before .before .before .before .before .before .before .before .before .before .before .taken .given .1)) (listed-not _ _ _ _ _ _ _ _ _ (c .before .before .before .before .before .before .before .before .parse-props .ensures) (listed-told (c .before .before .enum-told2 .given .1) (c .before .cause2 .ensures) (c .place2 .ensures)))
+
+sub-put-named : tie.Need-sub-put-named
+sub-put-named c = name-got _ _ (c .before .before .before .before .before .before .before .before .before .before .before .before .before .before .before .before .before .pre .lies) (c .before .before .before .before .before .before .before .before .before .before .before .taken .given .1) (c .before .before .before .before .before .before .before .before .before .before .before .before .before .parse-identifier .ensures) .0 .part .forth
+
+part-put-named-start : tie.Need-part-put-named-start
+part-put-named-start c = name-got _ _ (c .before .before .before .before .before .before .before .before .before .before .before .before .before .before .before .before .before .pre .lies) (c .before .before .before .before .before .before .before .before .before .before .before .taken .given .1) (c .before .before .before .before .before .before .before .before .before .before .before .before .before .parse-identifier .ensures) .0 .part .forth
+
+part-put-named-end : tie.Need-part-put-named-end
+part-put-named-end c = name-got _ _ (c .before .before .before .before .before .before .before .before .before .before .before .before .before .before .before .before .before .pre .lies) (c .before .before .before .before .before .before .before .before .before .before .before .taken .given .1) (c .before .before .before .before .before .before .before .before .before .before .before .before .before .parse-identifier .ensures) .0 .part .inside
+
+start-requires : tie.Need-start-requires
+start-requires c κs = search needs
+
+put-named-requires : tie.Need-put-named-requires
+put-named-requires c κs = let n = name-got _ _ (c .before .before .before .before .before .before .before .before .before .before .before .before .before .before .before .before .before .before .before .before .before .pre .lies) (c .before .before .before .before .before .before .before .before .before .before .before .before .before .before .before .taken .given .1) (c .before .before .before .before .before .before .before .before .before .before .before .before .before .before .before .before .before .parse-identifier .ensures) in let l = (listed _ _ _ _ _ _ _ _ _ (c .before .before .before .before .before .before .before .before .before .before .before .parse-props .ensures) (c .before .before .before .before .before .listed .given .1)) in put-asks (c .before .before .before .before .before .before .before .before .before .before .before .before .before .before .before .before .before .before .before .before .before .pre) (ready-on (ready-step (c .before .before .before .before .before .before .before .before .before .before .before .before .before .before .before .before .before .before .before .before .before .pre) (n .1 .onward)) (l .onward) (l .lays)) (c .before .before .start .ensures) (omega (arith, lists-small propBranch l (c .before .before .before .before .before .before .before .before .before .before .before .before .before .before .before .before .before .before .before .before .before .pre .small))) (part-short _ (n .0 .part))
 
 same-length-3 : tie.Need-same-length-3
 same-length-3 c = search needs
@@ -61,27 +75,31 @@ same-length-4 : tie.Need-same-length-4
 same-length-4 c = search needs
 
 returns-3 : tie.Need-returns-3
-returns-3 c = node-given _ _ (c .before .before .before .before .before .before .before .before .before .before .before .before .before .before .before .before .before .before .before .before .before .before .before .before .before .before .pre .lies) _ (c .before .before .before .before .before .before .before .before .before .before .before .before .before .before .before .before .before .before .before .before .before .before .parse-identifier .ensures) (c .before .before .before .before .before .before .before .before .before .before .before .before .before .before .before .before .before .before .before .before .a .given .1) (listed _ _ _ _ _ _ _ _ _ (c .before .before .before .before .before .before .before .before .before .before .before .before .before .before .before .before .parse-props .ensures) (c .before .before .before .before .before .before .before .before .before .before .v .given .1)) (c .before .before .before .before .before .before .before .start .ensures) (c .before .before .before .before .put-named .ensures)
+returns-3 c = node-given _ _ (c .before .before .before .before .before .before .before .before .before .before .before .before .before .before .before .before .before .before .before .before .before .before .before .before .before .before .pre .lies) _ (c .before .before .before .before .before .before .before .before .before .before .before .before .before .before .before .before .before .before .before .before .before .before .parse-identifier .ensures) (c .before .before .before .before .before .before .before .before .before .before .before .before .before .before .before .before .before .before .before .before .taken .given .1) (listed _ _ _ _ _ _ _ _ _ (c .before .before .before .before .before .before .before .before .before .before .before .before .before .before .before .before .parse-props .ensures) (c .before .before .before .before .before .before .before .before .before .before .listed .given .1)) (c .before .before .before .before .before .before .before .start .ensures) (c .before .before .before .before .put-named .ensures)
 
 pub parse-named-node-spec : {M : Type 1} → statement M
 parse-named-node-spec =
     tie.close
     (tie.spec
     parse-identifier-requires
-    enum-known-cause
-    enum-known-a
+    enum-known-taken
+    enum-told
+    cause-requires
+    place-requires
+    returns
     parse-props-requires
-    enum-known-cause-2
-    enum-known-v
+    enum-known-listed
+    enum-told-2
+    cause-requires-2
+    place-requires-2
+    same-length
+    same-length-2
+    returns-2
     sub-put-named
     part-put-named-start
     part-put-named-end
     start-requires
     put-named-requires
-    returns
-    same-length
-    same-length-2
-    returns-2
     same-length-3
     same-length-4
     returns-3)

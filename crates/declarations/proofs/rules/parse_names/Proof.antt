@@ -8,6 +8,7 @@ use Rattle.parser.proofs.Onward.{expect-onward}
 use Rattle.parser.proofs.Ready.{ready-step}
 use Rattle.parser.proofs.Took.{expect-not}
 use Rattle.declarations.proofs.RuleReads.{block-refused, block-list}
+use Rattle.tokens.proofs.Told.{arrived-told}
 use borrow.Author.Needs.{needs}
 use Rattle.declarations.proofs.rules.parse_names.Statement.{statement}
 use Rattle.declarations.proofs.rules.parse_names.Tie as tie
@@ -15,17 +16,23 @@ use Rattle.declarations.proofs.rules.parse_names.Tie as tie
 expect-punctuation-requires : tie.Need-expect-punctuation-requires
 expect-punctuation-requires c κs = search needs
 
-enum-known-cause : tie.Need-enum-known-cause
-enum-known-cause c = search needs
+enum-known-opened : tie.Need-enum-known-opened
+enum-known-opened c = search needs
 
-enum-known-u : tie.Need-enum-known-u
-enum-known-u c = search needs
+enum-told : tie.Need-enum-told
+enum-told c = search needs
 
-names-list-requires : tie.Need-names-list-requires
-names-list-requires c κs = ready-step (c .before .before .before .before .before .before .before .before .before .pre) (expect-onward _ "{" _ _ _ (omega arith) (c .before .before .before .before .before .before .before .before .before .pre .lies) (c .before .before .before .before .before .expect-punctuation .ensures) (c .before .before .before .u .given .1))
+cause-requires : tie.Need-cause-requires
+cause-requires c κs = search needs
+
+place-requires : tie.Need-place-requires
+place-requires c κs = search needs
 
 returns : tie.Need-returns
-returns c = block-refused commaOrNot (λ _. parseIdentifier) _ (expect-not _ "{" _ _ (c .before .before .before .expect-punctuation .ensures) (c .before .cause .given .1))
+returns c = block-refused commaOrNot (λ _. parseIdentifier) _ (expect-not _ "{" _ _ (c .before .before .before .before .expect-punctuation .ensures) (arrived-told (c .before .before .enum-told .given .1) (c .before .cause .ensures) (c .place .ensures)))
+
+names-list-requires : tie.Need-names-list-requires
+names-list-requires c κs = ready-step (c .before .before .before .before .before .before .before .before .before .pre) (expect-onward _ "{" _ _ _ (omega arith) (c .before .before .before .before .before .before .before .before .before .pre .lies) (c .before .before .before .before .before .expect-punctuation .ensures) (c .before .before .before .opened .given .1))
 
 same-length : tie.Need-same-length
 same-length c = search needs
@@ -34,17 +41,19 @@ same-length-2 : tie.Need-same-length-2
 same-length-2 c = search needs
 
 returns-2 : tie.Need-returns-2
-returns-2 c = block-list commaOrNot (λ _. parseIdentifier) (nodesOf (nameBranch (c .before .before .before .before .before .before .before .before .before .before .before .before .before .before .args .kind))) _ _ (c .before .before .before .before .before .before .before .before .before .before .before .before .before .before .pre .lies) _ (c .before .before .before .before .before .before .before .before .before .before .expect-punctuation .ensures) (c .before .before .before .before .before .before .before .before .u .given .1) _ _ _ (c .before .before .before .before .names-list .result) (c .before .before .before .before .names-list .ensures)
+returns-2 c = block-list commaOrNot (λ _. parseIdentifier) (nodesOf (nameBranch (c .before .before .before .before .before .before .before .before .before .before .before .before .before .before .args .kind))) _ _ (c .before .before .before .before .before .before .before .before .before .before .before .before .before .before .pre .lies) _ (c .before .before .before .before .before .before .before .before .before .before .expect-punctuation .ensures) (c .before .before .before .before .before .before .before .before .opened .given .1) _ _ _ (c .before .before .before .before .names-list .result) (c .before .before .before .before .names-list .ensures)
 
 pub parse-names-spec : {M : Type 1} → statement M
 parse-names-spec =
     tie.close
     (tie.spec
     expect-punctuation-requires
-    enum-known-cause
-    enum-known-u
-    names-list-requires
+    enum-known-opened
+    enum-told
+    cause-requires
+    place-requires
     returns
+    names-list-requires
     same-length
     same-length-2
     returns-2)

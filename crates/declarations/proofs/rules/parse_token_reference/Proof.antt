@@ -2,6 +2,7 @@
 -- Assumes nothing.
 use Rattle.parser.proofs.Took.{expressed, expressed-not}
 use Rattle.declarations.proofs.RuleReads.{reference-refused, reference-name, reference-literal, reference-repeat, reference-blank, reference-other}
+use Rattle.parser.proofs.Told.{expressed-told}
 use borrow.Author.Needs.{needs}
 use Rattle.declarations.proofs.rules.parse_token_reference.Statement.{statement}
 use Rattle.declarations.proofs.rules.parse_token_reference.Tie as tie
@@ -9,14 +10,26 @@ use Rattle.declarations.proofs.rules.parse_token_reference.Tie as tie
 parse-inner-requires : tie.Need-parse-inner-requires
 parse-inner-requires c κs = search needs
 
-enum-known-c : tie.Need-enum-known-c
-enum-known-c c = search needs
-
-enum-known-u : tie.Need-enum-known-u
-enum-known-u c = search needs
+enum-known-inner : tie.Need-enum-known-inner
+enum-known-inner c = search needs
 
 enum-told : tie.Need-enum-told
 enum-told c = search needs
+
+cause-requires : tie.Need-cause-requires
+cause-requires c κs = search needs
+
+place-requires : tie.Need-place-requires
+place-requires c κs = search needs
+
+same-length : tie.Need-same-length
+same-length c = search needs
+
+same-length-2 : tie.Need-same-length-2
+same-length-2 c = search needs
+
+returns : tie.Need-returns
+returns c = reference-refused _ _ (expressed-not _ _ _ _ _ _ _ _ _ (c .before .before .before .before .before .before .before .before .parse-inner .ensures) (expressed-told (c .before .before .enum-told .given .1) (c .before .cause .ensures) (c .place .ensures)))
 
 enum-told-2 : tie.Need-enum-told-2
 enum-told-2 c = search needs
@@ -30,14 +43,8 @@ enum-told-4 c = search needs
 enum-told-5 : tie.Need-enum-told-5
 enum-told-5 c = search needs
 
-same-length : tie.Need-same-length
-same-length c = search needs
-
-same-length-2 : tie.Need-same-length-2
-same-length-2 c = search needs
-
-returns : tie.Need-returns
-returns c = reference-refused _ _ (expressed-not _ _ _ _ _ _ _ _ _ (c .before .before .before .before .before .before .before .parse-inner .ensures) (c .before .c .given .1))
+enum-told-6 : tie.Need-enum-told-6
+enum-told-6 c = search needs
 
 same-length-3 : tie.Need-same-length-3
 same-length-3 c = search needs
@@ -46,7 +53,7 @@ same-length-4 : tie.Need-same-length-4
 same-length-4 c = search needs
 
 returns-2 : tie.Need-returns-2
-returns-2 c = reference-name _ (expressed _ _ _ _ _ _ _ _ _ (c .before .before .before .before .before .before .before .before .before .parse-inner .ensures) (c .before .before .before .u .given .1)) (c .enum-told .given .1)
+returns-2 c = reference-name _ (expressed _ _ _ _ _ _ _ _ _ (c .before .before .before .before .before .before .before .before .before .parse-inner .ensures) (c .before .before .before .inner .given .1)) (c .enum-told2 .given .1)
 
 same-length-5 : tie.Need-same-length-5
 same-length-5 c = search needs
@@ -55,7 +62,7 @@ same-length-6 : tie.Need-same-length-6
 same-length-6 c = search needs
 
 returns-3 : tie.Need-returns-3
-returns-3 c = reference-literal _ (expressed _ _ _ _ _ _ _ _ _ (c .before .before .before .before .before .before .before .before .before .parse-inner .ensures) (c .before .before .before .u .given .1)) (c .enum-told2 .given .1)
+returns-3 c = reference-literal _ (expressed _ _ _ _ _ _ _ _ _ (c .before .before .before .before .before .before .before .before .before .parse-inner .ensures) (c .before .before .before .inner .given .1)) (c .enum-told3 .given .1)
 
 same-length-7 : tie.Need-same-length-7
 same-length-7 c = search needs
@@ -64,7 +71,7 @@ same-length-8 : tie.Need-same-length-8
 same-length-8 c = search needs
 
 returns-4 : tie.Need-returns-4
-returns-4 c = reference-repeat _ (expressed _ _ _ _ _ _ _ _ _ (c .before .before .before .before .before .before .before .before .before .parse-inner .ensures) (c .before .before .before .u .given .1)) (c .enum-told3 .given .1)
+returns-4 c = reference-repeat _ (expressed _ _ _ _ _ _ _ _ _ (c .before .before .before .before .before .before .before .before .before .parse-inner .ensures) (c .before .before .before .inner .given .1)) (c .enum-told4 .given .1)
 
 same-length-9 : tie.Need-same-length-9
 same-length-9 c = search needs
@@ -73,7 +80,7 @@ same-length-10 : tie.Need-same-length-10
 same-length-10 c = search needs
 
 returns-5 : tie.Need-returns-5
-returns-5 c = reference-blank _ (expressed _ _ _ _ _ _ _ _ _ (c .before .before .before .before .before .before .before .before .before .parse-inner .ensures) (c .before .before .before .u .given .1)) (c .enum-told4 .given .1)
+returns-5 c = reference-blank _ (expressed _ _ _ _ _ _ _ _ _ (c .before .before .before .before .before .before .before .before .before .parse-inner .ensures) (c .before .before .before .inner .given .1)) (c .enum-told5 .given .1)
 
 same-length-11 : tie.Need-same-length-11
 same-length-11 c = search needs
@@ -82,23 +89,25 @@ same-length-12 : tie.Need-same-length-12
 same-length-12 c = search needs
 
 returns-6 : tie.Need-returns-6
-returns-6 c = reference-other _ (expressed _ _ _ _ _ _ _ _ _ (c .before .before .before .before .before .before .before .before .before .parse-inner .ensures) (c .before .before .before .u .given .1)) (c .enum-told5 .given .1)
+returns-6 c = reference-other _ (expressed _ _ _ _ _ _ _ _ _ (c .before .before .before .before .before .before .before .before .before .parse-inner .ensures) (c .before .before .before .inner .given .1)) (c .enum-told6 .given .1)
 
 pub parse-token-reference-spec : {M : Type 1} → statement M
 parse-token-reference-spec =
     tie.close
     (tie.spec
     parse-inner-requires
-    enum-known-c
-    enum-known-u
+    enum-known-inner
     enum-told
+    cause-requires
+    place-requires
+    same-length
+    same-length-2
+    returns
     enum-told-2
     enum-told-3
     enum-told-4
     enum-told-5
-    same-length
-    same-length-2
-    returns
+    enum-told-6
     same-length-3
     same-length-4
     returns-2

@@ -2,6 +2,7 @@
 -- Assumes nothing.
 use native.Mathlib.Omega.{arith}
 use mathlib.Core.Path.{refl}
+use Rattle.tokens.proofs.Told.{taken-told}
 use borrow.Author.Needs.{needs}
 use Rattle.notation.specs.Parser.{size, untilStep, eat, comma, parseIdentifier}
 use Rattle.tokens.specs.Promise.{stream}
@@ -58,44 +59,50 @@ enum-known-u-2 c = search needs
 parse-identifier-requires : tie.Need-parse-identifier-requires Inv-loop μ-loop
 parse-identifier-requires c κs = tt
 
-enum-known-cause-2 : tie.Need-enum-known-cause-2 Inv-loop μ-loop
-enum-known-cause-2 c = search needs
+enum-known-taken : tie.Need-enum-known-taken Inv-loop μ-loop
+enum-known-taken c = search needs
+
+enum-told : tie.Need-enum-told Inv-loop μ-loop
+enum-told c = search needs
+
+cause-requires : tie.Need-cause-requires Inv-loop μ-loop
+cause-requires c κs = search needs
+
+place-requires : tie.Need-place-requires Inv-loop μ-loop
+place-requires c κs = search needs
 
 same-length-5 : tie.Need-same-length-5 Inv-loop μ-loop
-same-length-5 c = omega (arith, c .before .before .before .before .before .before .before .before .loop .inv .lays .stores .same-words)
+same-length-5 c = omega (arith, c .before .before .before .before .before .before .before .before .before .loop .inv .lays .stores .same-words)
 
 same-length-6 : tie.Need-same-length-6 Inv-loop μ-loop
-same-length-6 c = omega (arith, c .before .before .before .before .before .before .before .before .loop .inv .lays .stores .same-texts)
+same-length-6 c = omega (arith, c .before .before .before .before .before .before .before .before .before .loop .inv .lays .stores .same-texts)
 
 returns-3 : tie.Need-returns-3 Inv-loop μ-loop
-returns-3 c = item-refused ">" Must (λ _. parseIdentifier) (c .before .before .before .before .before .before .before .before .loop .inv) _ (c .before .before .before .before .before .before .before .opening .ensures) (c .before .before .before .before .before .u2 .given .1) _ refl (c .before .before .before .before .before .before .before .before .loop .records) (c .before .before .before .before .before .before .before .before .loop .texts) (P.Refused (c .before .cause2 .given .0 .0) _) (taken-not _ _ _ (c .before .before .before .parse-identifier .ensures .takes) (c .before .cause2 .given .1)) refl
-
-enum-known-a : tie.Need-enum-known-a Inv-loop μ-loop
-enum-known-a c = search needs
+returns-3 c = item-refused ">" Must (λ _. parseIdentifier) (c .before .before .before .before .before .before .before .before .before .loop .inv) _ (c .before .before .before .before .before .before .before .before .opening .ensures) (c .before .before .before .before .before .before .u2 .given .1) _ refl (c .before .before .before .before .before .before .before .before .before .loop .records) (c .before .before .before .before .before .before .before .before .before .loop .texts) (P.Refused (c .before .cause2 .result) _) (taken-not _ _ _ (c .before .before .before .before .parse-identifier .ensures .takes) (taken-told (c .before .before .enum-told .given .1) (c .before .cause2 .ensures) (c .place .ensures))) refl
 
 sub-put-named : tie.Need-sub-put-named Inv-loop μ-loop
-sub-put-named c = (name-got _ _ ((item-onward ">" (c .before .before .before .before .before .before .before .opening .ensures) (c .before .before .before .before .before .u2 .given .1)) .lies) (c .before .a .given .1) (c .before .before .before .parse-identifier .ensures)) .0 .part .forth
+sub-put-named c = (name-got _ _ ((item-onward ">" (c .before .before .before .before .before .before .before .opening .ensures) (c .before .before .before .before .before .u2 .given .1)) .lies) (c .before .taken .given .1) (c .before .before .before .parse-identifier .ensures)) .0 .part .forth
 
 part-put-named-start : tie.Need-part-put-named-start Inv-loop μ-loop
-part-put-named-start c = (name-got _ _ ((item-onward ">" (c .before .before .before .before .before .before .before .opening .ensures) (c .before .before .before .before .before .u2 .given .1)) .lies) (c .before .a .given .1) (c .before .before .before .parse-identifier .ensures)) .0 .part .forth
+part-put-named-start c = (name-got _ _ ((item-onward ">" (c .before .before .before .before .before .before .before .opening .ensures) (c .before .before .before .before .before .u2 .given .1)) .lies) (c .before .taken .given .1) (c .before .before .before .parse-identifier .ensures)) .0 .part .forth
 
 part-put-named-end : tie.Need-part-put-named-end Inv-loop μ-loop
-part-put-named-end c = (name-got _ _ ((item-onward ">" (c .before .before .before .before .before .before .before .opening .ensures) (c .before .before .before .before .before .u2 .given .1)) .lies) (c .before .a .given .1) (c .before .before .before .parse-identifier .ensures)) .0 .part .inside
+part-put-named-end c = (name-got _ _ ((item-onward ">" (c .before .before .before .before .before .before .before .opening .ensures) (c .before .before .before .before .before .u2 .given .1)) .lies) (c .before .taken .given .1) (c .before .before .before .parse-identifier .ensures)) .0 .part .inside
 
 start-requires : tie.Need-start-requires Inv-loop μ-loop
 start-requires c κs = tt
 
 put-named-requires : tie.Need-put-named-requires Inv-loop μ-loop
-put-named-requires c κs = let r = ready-step (ready-on (c .before .before .before .before .before .before .before .before .before .before .before .before .before .before .before .before .pre) (c .before .before .before .before .before .before .before .before .before .before .before .before .loop .inv .onward) (c .before .before .before .before .before .before .before .before .before .before .before .before .loop .inv .lays)) (item-onward ">" (c .before .before .before .before .before .before .before .before .before .before .before .opening .ensures) (c .before .before .before .before .before .before .before .before .before .u2 .given .1)) in put-asks r r (c .before .before .start .ensures) (omega arith) (part-short _ ((name-got _ _ ((item-onward ">" (c .before .before .before .before .before .before .before .before .before .before .before .opening .ensures) (c .before .before .before .before .before .before .before .before .before .u2 .given .1)) .lies) (c .before .before .before .before .before .a .given .1) (c .before .before .before .before .before .before .before .parse-identifier .ensures)) .0 .part))
+put-named-requires c κs = let r = ready-step (ready-on (c .before .before .before .before .before .before .before .before .before .before .before .before .before .before .before .before .pre) (c .before .before .before .before .before .before .before .before .before .before .before .before .loop .inv .onward) (c .before .before .before .before .before .before .before .before .before .before .before .before .loop .inv .lays)) (item-onward ">" (c .before .before .before .before .before .before .before .before .before .before .before .opening .ensures) (c .before .before .before .before .before .before .before .before .before .u2 .given .1)) in put-asks r r (c .before .before .start .ensures) (omega arith) (part-short _ ((name-got _ _ ((item-onward ">" (c .before .before .before .before .before .before .before .before .before .before .before .opening .ensures) (c .before .before .before .before .before .before .before .before .before .u2 .given .1)) .lies) (c .before .before .before .before .before .taken .given .1) (c .before .before .before .before .before .before .before .parse-identifier .ensures)) .0 .part))
 
 add-count : tie.Need-add-count Inv-loop μ-loop
 add-count c = omega (arith, listing-small (nameBranch 4) (c .before .before .before .before .before .before .before .before .before .before .before .before .before .before .before .before .before .loop .inv) (c .before .before .before .before .before .before .before .before .before .before .before .before .before .before .before .before .before .before .before .before .before .pre .small) (omega arith))
 
 loop-less : tie.Need-loop-less Inv-loop μ-loop
-loop-less c = omega (arith, item-more ">" Must (λ _. parseIdentifier) (c .before .before .before .before .before .before .before .before .before .before .before .before .before .before .before .before .before .loop .inv) _ (c .before .before .before .before .before .before .before .before .before .before .before .before .before .before .before .before .opening .ensures) (c .before .before .before .before .before .before .before .before .before .before .before .before .before .before .u2 .given .1) _ refl _ _ (P.Done _ _ _) (name-given 4 _ _ ((item-onward ">" (c .before .before .before .before .before .before .before .before .before .before .before .before .before .before .before .before .opening .ensures) (c .before .before .before .before .before .before .before .before .before .before .before .before .before .before .u2 .given .1)) .lies) _ (c .before .before .before .before .before .before .before .before .before .before .before .before .parse-identifier .ensures) (c .before .before .before .before .before .before .before .before .before .before .a .given .1) (c .before .before .before .before .before .before .before .start .ensures) (c .before .before .before .before .put-named .ensures)) refl .0 .fewer)
+loop-less c = omega (arith, item-more ">" Must (λ _. parseIdentifier) (c .before .before .before .before .before .before .before .before .before .before .before .before .before .before .before .before .before .loop .inv) _ (c .before .before .before .before .before .before .before .before .before .before .before .before .before .before .before .before .opening .ensures) (c .before .before .before .before .before .before .before .before .before .before .before .before .before .before .u2 .given .1) _ refl _ _ (P.Done _ _ _) (name-given 4 _ _ ((item-onward ">" (c .before .before .before .before .before .before .before .before .before .before .before .before .before .before .before .before .opening .ensures) (c .before .before .before .before .before .before .before .before .before .before .before .before .before .before .u2 .given .1)) .lies) _ (c .before .before .before .before .before .before .before .before .before .before .before .before .parse-identifier .ensures) (c .before .before .before .before .before .before .before .before .before .before .taken .given .1) (c .before .before .before .before .before .before .before .start .ensures) (c .before .before .before .before .put-named .ensures)) refl .0 .fewer)
 
 loop-again : tie.Need-loop-again Inv-loop μ-loop
-loop-again c = item-more ">" Must (λ _. parseIdentifier) (c .before .before .before .before .before .before .before .before .before .before .before .before .before .before .before .before .before .loop .inv) _ (c .before .before .before .before .before .before .before .before .before .before .before .before .before .before .before .before .opening .ensures) (c .before .before .before .before .before .before .before .before .before .before .before .before .before .before .u2 .given .1) _ refl _ _ (P.Done _ _ _) (name-given 4 _ _ ((item-onward ">" (c .before .before .before .before .before .before .before .before .before .before .before .before .before .before .before .before .opening .ensures) (c .before .before .before .before .before .before .before .before .before .before .before .before .before .before .u2 .given .1)) .lies) _ (c .before .before .before .before .before .before .before .before .before .before .before .before .parse-identifier .ensures) (c .before .before .before .before .before .before .before .before .before .before .a .given .1) (c .before .before .before .before .before .before .before .start .ensures) (c .before .before .before .before .put-named .ensures)) refl .1
+loop-again c = item-more ">" Must (λ _. parseIdentifier) (c .before .before .before .before .before .before .before .before .before .before .before .before .before .before .before .before .before .loop .inv) _ (c .before .before .before .before .before .before .before .before .before .before .before .before .before .before .before .before .opening .ensures) (c .before .before .before .before .before .before .before .before .before .before .before .before .before .before .u2 .given .1) _ refl _ _ (P.Done _ _ _) (name-given 4 _ _ ((item-onward ">" (c .before .before .before .before .before .before .before .before .before .before .before .before .before .before .before .before .opening .ensures) (c .before .before .before .before .before .before .before .before .before .before .before .before .before .before .u2 .given .1)) .lies) _ (c .before .before .before .before .before .before .before .before .before .before .before .before .parse-identifier .ensures) (c .before .before .before .before .before .before .before .before .before .before .taken .given .1) (c .before .before .before .before .before .before .before .start .ensures) (c .before .before .before .before .put-named .ensures)) refl .1
 
 pub params-list-spec : {M : Type 1} → statement M
 params-list-spec =
@@ -115,11 +122,13 @@ params-list-spec =
     returns-2
     enum-known-u-2
     parse-identifier-requires
-    enum-known-cause-2
+    enum-known-taken
+    enum-told
+    cause-requires
+    place-requires
     same-length-5
     same-length-6
     returns-3
-    enum-known-a
     sub-put-named
     part-put-named-start
     part-put-named-end

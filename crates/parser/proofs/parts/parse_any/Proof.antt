@@ -3,6 +3,7 @@
 use native.Mathlib.Omega.{arith}
 use Rattle.parser.proofs.Ready.{put-plain-asks, arrived-not}
 use Rattle.parser.proofs.PartRules.{any-refused, any-yields}
+use Rattle.tokens.proofs.Told.{arrived-told}
 use borrow.Author.Needs.{needs}
 use Rattle.parser.proofs.parts.parse_any.Statement.{statement}
 use Rattle.parser.proofs.parts.parse_any.Tie as tie
@@ -10,11 +11,20 @@ use Rattle.parser.proofs.parts.parse_any.Tie as tie
 next-requires : tie.Need-next-requires
 next-requires c κs = search needs
 
-enum-known-cause : tie.Need-enum-known-cause
-enum-known-cause c = search needs
+enum-known-arrived : tie.Need-enum-known-arrived
+enum-known-arrived c = search needs
 
-enum-known-u : tie.Need-enum-known-u
-enum-known-u c = search needs
+enum-told : tie.Need-enum-told
+enum-told c = search needs
+
+cause-requires : tie.Need-cause-requires
+cause-requires c κs = search needs
+
+place-requires : tie.Need-place-requires
+place-requires c κs = search needs
+
+returns : tie.Need-returns
+returns c = any-refused _ _ (arrived-not _ _ (c .before .before .before .before .next .ensures .0) (arrived-told (c .before .before .enum-told .given .1) (c .before .cause .ensures) (c .place .ensures)))
 
 start-requires : tie.Need-start-requires
 start-requires c κs = search needs
@@ -25,25 +35,24 @@ put-plain-requires c κs = put-plain-asks (c .before .before .before .before .be
 start-requires-2 : tie.Need-start-requires-2
 start-requires-2 c κs = search needs
 
-returns : tie.Need-returns
-returns c = any-refused _ _ (arrived-not _ _ (c .before .before .before .next .ensures .0) (c .before .cause .given .1))
-
 same-length : tie.Need-same-length
 same-length c = search needs
 
 returns-2 : tie.Need-returns-2
-returns-2 c = any-yields _ _ (c .before .before .before .before .before .before .before .before .before .before .before .before .before .pre .0) (c .before .before .before .before .before .before .before .before .before .before .before .before .before .pre .1) _ (c .before .before .before .before .before .before .before .before .before .next .ensures) (c .before .before .before .before .before .before .before .u .given .1) (c .before .before .before .before .start .ensures) (c .start2 .ensures) (c .before .before .before .put-plain .ensures)
+returns-2 c = any-yields _ _ (c .before .before .before .before .before .before .before .before .before .before .before .before .before .pre .0) (c .before .before .before .before .before .before .before .before .before .before .before .before .before .pre .1) _ (c .before .before .before .before .before .before .before .before .before .next .ensures) (c .before .before .before .before .before .before .before .arrived .given .1) (c .before .before .before .before .start .ensures) (c .start2 .ensures) (c .before .before .before .put-plain .ensures)
 
 pub parse-any-spec : {M : Type 1} → statement M
 parse-any-spec =
     tie.close
     (tie.spec
     next-requires
-    enum-known-cause
-    enum-known-u
+    enum-known-arrived
+    enum-told
+    cause-requires
+    place-requires
+    returns
     start-requires
     put-plain-requires
     start-requires-2
-    returns
     same-length
     returns-2)

@@ -3,6 +3,7 @@
 use native.Mathlib.Omega.{arith}
 use Rattle.parser.proofs.Ready.{arrived-not}
 use Rattle.parser.proofs.PartRules.{plain-asks, named-some, named-none, class-none, class-refused, class-yields}
+use Rattle.tokens.proofs.Told.{arrived-told}
 use borrow.Author.Needs.{needs}
 use Rattle.parser.proofs.parts.parse_class.Statement.{statement}
 use Rattle.parser.proofs.parts.parse_class.Tie as tie
@@ -34,11 +35,20 @@ returns c = class-none _ _ _ (named-none _ (c .before .before .before .class-fro
 next-requires : tie.Need-next-requires
 next-requires c κs = search needs
 
-enum-known-cause : tie.Need-enum-known-cause
-enum-known-cause c = search needs
+enum-known-arrived : tie.Need-enum-known-arrived
+enum-known-arrived c = search needs
 
-enum-known-u : tie.Need-enum-known-u
-enum-known-u c = search needs
+enum-told-2 : tie.Need-enum-told-2
+enum-told-2 c = search needs
+
+cause-requires : tie.Need-cause-requires
+cause-requires c κs = search needs
+
+place-requires : tie.Need-place-requires
+place-requires c κs = search needs
+
+returns-2 : tie.Need-returns-2
+returns-2 c = class-refused _ _ (named-some _ (c .before .before .before .before .before .before .before .before .class-from-name .ensures) (c .before .before .before .before .before .before .class .given .1)) (arrived-not _ _ (c .before .before .before .before .next .ensures .0) (arrived-told (c .before .before .enum-told2 .given .1) (c .before .cause .ensures) (c .place .ensures)))
 
 class-value-requires : tie.Need-class-value-requires
 class-value-requires c κs = search needs
@@ -46,14 +56,11 @@ class-value-requires c κs = search needs
 put-plain-requires : tie.Need-put-plain-requires
 put-plain-requires c κs = plain-asks (c .before .before .before .before .before .before .before .before .before .before .before .before .before .before .pre .0) (c .before .before .before .before .before .before .before .before .before .before .before .before .before .before .pre .3) (omega arith)
 
-returns-2 : tie.Need-returns-2
-returns-2 c = class-refused _ _ (named-some _ (c .before .before .before .before .before .before .before .class-from-name .ensures) (c .before .before .before .before .before .class .given .1)) (arrived-not _ _ (c .before .before .before .next .ensures .0) (c .before .cause .given .1))
-
 same-length : tie.Need-same-length
 same-length c = search needs
 
 returns-3 : tie.Need-returns-3
-returns-3 c = class-yields _ _ (c .before .before .before .before .before .before .before .before .before .before .before .before .before .before .before .before .before .pre .0) (c .before .before .before .before .before .before .before .before .before .before .before .before .before .before .before .before .before .pre .1) _ (c .before .before .before .before .before .before .before .before .next .ensures) (c .before .before .before .before .before .before .u .given .1) (named-some _ (c .before .before .before .before .before .before .before .before .before .before .before .before .class-from-name .ensures) (c .before .before .before .before .before .before .before .before .before .before .class .given .1)) (c .before .before .before .before .before .before .before .before .before .before .before .before .before .before .before .before .before .pre .3) (c .before .before .before .class-value .ensures) (c .before .before .put-plain .ensures)
+returns-3 c = class-yields _ _ (c .before .before .before .before .before .before .before .before .before .before .before .before .before .before .before .before .before .pre .0) (c .before .before .before .before .before .before .before .before .before .before .before .before .before .before .before .before .before .pre .1) _ (c .before .before .before .before .before .before .before .before .next .ensures) (c .before .before .before .before .before .before .arrived .given .1) (named-some _ (c .before .before .before .before .before .before .before .before .before .before .before .before .class-from-name .ensures) (c .before .before .before .before .before .before .before .before .before .before .class .given .1)) (c .before .before .before .before .before .before .before .before .before .before .before .before .before .before .before .before .before .pre .3) (c .before .before .before .class-value .ensures) (c .before .before .put-plain .ensures)
 
 pub parse-class-spec : {M : Type 1} → statement M
 parse-class-spec =
@@ -68,10 +75,12 @@ parse-class-spec =
     start-requires
     returns
     next-requires
-    enum-known-cause
-    enum-known-u
+    enum-known-arrived
+    enum-told-2
+    cause-requires
+    place-requires
+    returns-2
     class-value-requires
     put-plain-requires
-    returns-2
     same-length
     returns-3)

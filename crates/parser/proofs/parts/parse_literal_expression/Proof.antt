@@ -3,6 +3,7 @@
 use native.Mathlib.Omega.{arith}
 use Rattle.parser.proofs.Ready.{put-plain-asks, put-asks, part-short, string-in, arrived-not}
 use Rattle.parser.proofs.PartRules.{value-none, value-some, literal-refused, empty-yields, literal-yields}
+use Rattle.tokens.proofs.Told.{arrived-told}
 use borrow.Author.Needs.{needs}
 use Rattle.parser.proofs.parts.parse_literal_expression.Statement.{statement}
 use Rattle.parser.proofs.parts.parse_literal_expression.Tie as tie
@@ -10,11 +11,20 @@ use Rattle.parser.proofs.parts.parse_literal_expression.Tie as tie
 next-requires : tie.Need-next-requires
 next-requires c κs = search needs
 
-enum-known-cause : tie.Need-enum-known-cause
-enum-known-cause c = search needs
+enum-known-arrived : tie.Need-enum-known-arrived
+enum-known-arrived c = search needs
 
-enum-known-u : tie.Need-enum-known-u
-enum-known-u c = search needs
+enum-told : tie.Need-enum-told
+enum-told c = search needs
+
+cause-requires : tie.Need-cause-requires
+cause-requires c κs = search needs
+
+place-requires : tie.Need-place-requires
+place-requires c κs = search needs
+
+returns : tie.Need-returns
+returns c = literal-refused _ _ _ _ _ (arrived-not _ _ (c .before .before .before .before .next .ensures .0) (arrived-told (c .before .before .enum-told .given .1) (c .before .cause .ensures) (c .place .ensures)))
 
 sub-set-atom : tie.Need-sub-set-atom
 sub-set-atom c = string-in (c .before .before .before .before .before .before .before .pre .0) (c .before .before .before .before .before .before .before .pre .1) .part .forth
@@ -28,8 +38,8 @@ part-set-atom-end c = string-in (c .before .before .before .before .before .befo
 set-atom-requires : tie.Need-set-atom-requires
 set-atom-requires c κs = search needs
 
-enum-told : tie.Need-enum-told
-enum-told c = search needs
+enum-told-2 : tie.Need-enum-told-2
+enum-told-2 c = search needs
 
 start-requires : tie.Need-start-requires
 start-requires c κs = search needs
@@ -40,8 +50,8 @@ put-plain-requires c κs = put-plain-asks (c .before .before .before .before .be
 start-requires-2 : tie.Need-start-requires-2
 start-requires-2 c κs = search needs
 
-enum-told-2 : tie.Need-enum-told-2
-enum-told-2 c = search needs
+enum-told-3 : tie.Need-enum-told-3
+enum-told-3 c = search needs
 
 sub-put-string : tie.Need-sub-put-string
 sub-put-string c = string-in (c .before .before .before .before .before .before .before .before .before .before .before .pre .0) (c .before .before .before .before .before .before .before .before .before .before .before .pre .1) .part .forth
@@ -61,14 +71,11 @@ put-string-requires c κs = put-asks (c .before .before .before .before .before 
 start-requires-4 : tie.Need-start-requires-4
 start-requires-4 c κs = search needs
 
-returns : tie.Need-returns
-returns c = literal-refused _ _ _ _ _ (arrived-not _ _ (c .before .before .before .next .ensures .0) (c .before .cause .given .1))
-
 same-length : tie.Need-same-length
 same-length c = search needs
 
 returns-2 : tie.Need-returns-2
-returns-2 c = empty-yields _ _ (c .before .before .before .before .before .before .before .before .before .before .before .before .before .before .before .before .before .pre .0) (c .before .before .before .before .before .before .before .before .before .before .before .before .before .before .before .before .before .pre .1) _ (c .before .before .before .before .before .before .before .before .before .before .before .before .before .next .ensures) (c .before .before .before .before .before .before .before .before .before .before .before .u .given .1) (value-none _ _ (c .before .before .before .before .before .before .before .before .set-atom .ensures) (c .before .before .before .before .before .before .enum-told .given .1)) (c .before .before .before .before .start .ensures) (c .start2 .ensures) (c .before .before .before .put-plain .ensures)
+returns-2 c = empty-yields _ _ (c .before .before .before .before .before .before .before .before .before .before .before .before .before .before .before .before .before .pre .0) (c .before .before .before .before .before .before .before .before .before .before .before .before .before .before .before .before .before .pre .1) _ (c .before .before .before .before .before .before .before .before .before .before .before .before .before .next .ensures) (c .before .before .before .before .before .before .before .before .before .before .before .arrived .given .1) (value-none _ _ (c .before .before .before .before .before .before .before .before .set-atom .ensures) (c .before .before .before .before .before .before .enum-told2 .given .1)) (c .before .before .before .before .start .ensures) (c .start2 .ensures) (c .before .before .before .put-plain .ensures)
 
 same-length-2 : tie.Need-same-length-2
 same-length-2 c = search needs
@@ -77,31 +84,33 @@ same-length-3 : tie.Need-same-length-3
 same-length-3 c = search needs
 
 returns-3 : tie.Need-returns-3
-returns-3 c = literal-yields _ _ (c .before .before .before .before .before .before .before .before .before .before .before .before .before .before .before .before .before .before .before .before .before .pre .0) (c .before .before .before .before .before .before .before .before .before .before .before .before .before .before .before .before .before .before .before .before .before .pre .1) _ (c .before .before .before .before .before .before .before .before .before .before .before .before .before .before .before .before .before .next .ensures) (c .before .before .before .before .before .before .before .before .before .before .before .before .before .before .before .u .given .1) (value-some _ _ (c .before .before .before .before .before .before .before .before .before .before .before .before .set-atom .ensures) (c .before .before .before .before .before .before .before .before .before .before .enum-told2 .given .1)) (c .before .before .before .before .before .before .before .before .start3 .ensures) (c .start4 .ensures) (c .before .before .before .before .before .put-string .ensures)
+returns-3 c = literal-yields _ _ (c .before .before .before .before .before .before .before .before .before .before .before .before .before .before .before .before .before .before .before .before .before .pre .0) (c .before .before .before .before .before .before .before .before .before .before .before .before .before .before .before .before .before .before .before .before .before .pre .1) _ (c .before .before .before .before .before .before .before .before .before .before .before .before .before .before .before .before .before .next .ensures) (c .before .before .before .before .before .before .before .before .before .before .before .before .before .before .before .arrived .given .1) (value-some _ _ (c .before .before .before .before .before .before .before .before .before .before .before .before .set-atom .ensures) (c .before .before .before .before .before .before .before .before .before .before .enum-told3 .given .1)) (c .before .before .before .before .before .before .before .before .start3 .ensures) (c .start4 .ensures) (c .before .before .before .before .before .put-string .ensures)
 
 pub parse-literal-expression-spec : {M : Type 1} → statement M
 parse-literal-expression-spec =
     tie.close
     (tie.spec
     next-requires
-    enum-known-cause
-    enum-known-u
+    enum-known-arrived
+    enum-told
+    cause-requires
+    place-requires
+    returns
     sub-set-atom
     part-set-atom-start
     part-set-atom-end
     set-atom-requires
-    enum-told
+    enum-told-2
     start-requires
     put-plain-requires
     start-requires-2
-    enum-told-2
+    enum-told-3
     sub-put-string
     part-put-string-start
     part-put-string-end
     start-requires-3
     put-string-requires
     start-requires-4
-    returns
     same-length
     returns-2
     same-length-2

@@ -2,6 +2,7 @@
 -- Assumes nothing.
 use native.Mathlib.Omega.{arith}
 use mathlib.Core.Path.{_∙_}
+use Rattle.tokens.proofs.Told.{arrived-told}
 use borrow.Author.Needs.{needs}
 use Rattle.notation.specs.Limits.{repeats}
 use Rattle.notation.specs.Parser.{size}
@@ -60,18 +61,24 @@ returns-2 c = repeats-full (c .before .before .before .before .before .before .b
 next-requires : tie.Need-next-requires Inv-loop μ-loop
 next-requires c κs = tt
 
-enum-known-cause : tie.Need-enum-known-cause Inv-loop μ-loop
-enum-known-cause c = search needs
+enum-known-arrived : tie.Need-enum-known-arrived Inv-loop μ-loop
+enum-known-arrived c = search needs
+
+enum-told-2 : tie.Need-enum-told-2 Inv-loop μ-loop
+enum-told-2 c = search needs
+
+cause-requires : tie.Need-cause-requires Inv-loop μ-loop
+cause-requires c κs = search needs
+
+place-requires : tie.Need-place-requires Inv-loop μ-loop
+place-requires c κs = search needs
 
 same-length-3 : tie.Need-same-length-3 Inv-loop μ-loop
-same-length-3 c = omega (arith, c .before .before .before .before .before .before .before .before .before .before .loop .inv .lays .stores .same-words)
+same-length-3 c = omega (arith, c .before .before .before .before .before .before .before .before .before .before .before .loop .inv .lays .stores .same-words)
 
 returns-3 : tie.Need-returns-3 Inv-loop μ-loop
 unfolding repeats
-returns-3 c = repeats-halt (c .before .before .before .before .before .before .before .before .before .before .before .before .before .before .args .stack) (c .before .before .before .before .before .before .before .before .before .before .before .before .before .before .args .start) (c .before .before .before .before .before .before .before .before .before .before .loop .inv) (repeated-some _ (c .before .before .before .before .before .before .before .before .repeat-kind .ensures ∙ rw (c .before .before .before .before .before .before .before .before .before .mark .ensures)) (c .before .before .before .before .before .before .kind .given .1)) (c .before .before .before .before .if1 .left) _ (c .before .before .before .next .ensures) (c .before .cause .given .1)
-
-enum-known-u : tie.Need-enum-known-u Inv-loop μ-loop
-enum-known-u c = search needs
+returns-3 c = repeats-halt (c .before .before .before .before .before .before .before .before .before .before .before .before .before .before .before .args .stack) (c .before .before .before .before .before .before .before .before .before .before .before .before .before .before .before .args .start) (c .before .before .before .before .before .before .before .before .before .before .before .loop .inv) (repeated-some _ (c .before .before .before .before .before .before .before .before .before .repeat-kind .ensures ∙ rw (c .before .before .before .before .before .before .before .before .before .before .mark .ensures)) (c .before .before .before .before .before .before .before .kind .given .1)) (c .before .before .before .before .before .if1 .left) _ (c .before .before .before .before .next .ensures) (arrived-told (c .before .before .enum-told2 .given .1) (c .before .cause .ensures) (c .place .ensures))
 
 repeat-value-requires : tie.Need-repeat-value-requires Inv-loop μ-loop
 repeat-value-requires c κs = tt
@@ -84,11 +91,11 @@ add-count c = omega (arith, repeats-small (c .before .before .before .before .be
 
 loop-less : tie.Need-loop-less Inv-loop μ-loop
 unfolding repeats
-loop-less c = omega (arith, repeats-more (c .before .before .before .before .before .before .before .before .before .before .before .before .before .before .before .before .before .before .before .args .stack) (c .before .before .before .before .before .before .before .before .before .before .before .before .before .before .before .before .before .before .before .args .start) (c .before .before .before .before .before .before .before .before .before .before .before .before .before .before .before .loop .inv) (repeated-some _ (c .before .before .before .before .before .before .before .before .before .before .before .before .before .repeat-kind .ensures ∙ rw (c .before .before .before .before .before .before .before .before .before .before .before .before .before .before .mark .ensures)) (c .before .before .before .before .before .before .before .before .before .before .before .kind .given .1)) (c .before .before .before .before .before .before .before .before .before .if1 .left) _ (c .before .before .before .before .before .before .before .before .next .ensures) (c .before .before .before .before .before .before .u .given .1) (c .before .before .before .repeat-value .ensures) (c .before .before .put-plain .ensures) .0 .fewer)
+loop-less c = omega (arith, repeats-more (c .before .before .before .before .before .before .before .before .before .before .before .before .before .before .before .before .before .before .before .args .stack) (c .before .before .before .before .before .before .before .before .before .before .before .before .before .before .before .before .before .before .before .args .start) (c .before .before .before .before .before .before .before .before .before .before .before .before .before .before .before .loop .inv) (repeated-some _ (c .before .before .before .before .before .before .before .before .before .before .before .before .before .repeat-kind .ensures ∙ rw (c .before .before .before .before .before .before .before .before .before .before .before .before .before .before .mark .ensures)) (c .before .before .before .before .before .before .before .before .before .before .before .kind .given .1)) (c .before .before .before .before .before .before .before .before .before .if1 .left) _ (c .before .before .before .before .before .before .before .before .next .ensures) (c .before .before .before .before .before .before .arrived .given .1) (c .before .before .before .repeat-value .ensures) (c .before .before .put-plain .ensures) .0 .fewer)
 
 loop-again : tie.Need-loop-again Inv-loop μ-loop
 unfolding repeats
-loop-again c = repeats-more (c .before .before .before .before .before .before .before .before .before .before .before .before .before .before .before .before .before .before .before .args .stack) (c .before .before .before .before .before .before .before .before .before .before .before .before .before .before .before .before .before .before .before .args .start) (c .before .before .before .before .before .before .before .before .before .before .before .before .before .before .before .loop .inv) (repeated-some _ (c .before .before .before .before .before .before .before .before .before .before .before .before .before .repeat-kind .ensures ∙ rw (c .before .before .before .before .before .before .before .before .before .before .before .before .before .before .mark .ensures)) (c .before .before .before .before .before .before .before .before .before .before .before .kind .given .1)) (c .before .before .before .before .before .before .before .before .before .if1 .left) _ (c .before .before .before .before .before .before .before .before .next .ensures) (c .before .before .before .before .before .before .u .given .1) (c .before .before .before .repeat-value .ensures) (c .before .before .put-plain .ensures) .1
+loop-again c = repeats-more (c .before .before .before .before .before .before .before .before .before .before .before .before .before .before .before .before .before .before .before .args .stack) (c .before .before .before .before .before .before .before .before .before .before .before .before .before .before .before .before .before .before .before .args .start) (c .before .before .before .before .before .before .before .before .before .before .before .before .before .before .before .loop .inv) (repeated-some _ (c .before .before .before .before .before .before .before .before .before .before .before .before .before .repeat-kind .ensures ∙ rw (c .before .before .before .before .before .before .before .before .before .before .before .before .before .before .mark .ensures)) (c .before .before .before .before .before .before .before .before .before .before .before .kind .given .1)) (c .before .before .before .before .before .before .before .before .before .if1 .left) _ (c .before .before .before .before .before .before .before .before .next .ensures) (c .before .before .before .before .before .before .arrived .given .1) (c .before .before .before .repeat-value .ensures) (c .before .before .put-plain .ensures) .1
 
 pub parse-repeats-spec : {M : Type 1} → statement M
 parse-repeats-spec =
@@ -108,10 +115,12 @@ parse-repeats-spec =
     same-length-2
     returns-2
     next-requires
-    enum-known-cause
+    enum-known-arrived
+    enum-told-2
+    cause-requires
+    place-requires
     same-length-3
     returns-3
-    enum-known-u
     repeat-value-requires
     put-plain-requires
     add-count

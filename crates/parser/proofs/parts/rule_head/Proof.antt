@@ -3,6 +3,7 @@
 use Rattle.parser.proofs.Ready.{ready-on}
 use Rattle.parser.proofs.Openings.{listed, listed-not}
 use Rattle.parser.proofs.HeadRules.{head-props, head-params, heads}
+use Rattle.parser.proofs.Told.{listed-told}
 use borrow.Author.Needs.{needs}
 use Rattle.parser.proofs.parts.rule_head.Statement.{statement}
 use Rattle.parser.proofs.parts.rule_head.Tie as tie
@@ -10,20 +11,17 @@ use Rattle.parser.proofs.parts.rule_head.Tie as tie
 parse-props-requires : tie.Need-parse-props-requires
 parse-props-requires c κs = search needs
 
-enum-known-cause : tie.Need-enum-known-cause
-enum-known-cause c = search needs
+enum-known-listed : tie.Need-enum-known-listed
+enum-known-listed c = search needs
 
-enum-known-u : tie.Need-enum-known-u
-enum-known-u c = search needs
+enum-told : tie.Need-enum-told
+enum-told c = search needs
 
-parse-params-requires : tie.Need-parse-params-requires
-parse-params-requires c κs = let l = (listed _ _ _ _ _ _ _ _ _ (c .before .before .before .before .before .before .before .before .before .parse-props .ensures) (c .before .before .before .u .given .1)) in ready-on (c .before .before .before .before .before .before .before .before .before .before .before .before .before .before .before .pre) (l .onward) (l .lays)
+cause-requires : tie.Need-cause-requires
+cause-requires c κs = search needs
 
-enum-known-cause-2 : tie.Need-enum-known-cause-2
-enum-known-cause-2 c = search needs
-
-enum-known-v : tie.Need-enum-known-v
-enum-known-v c = search needs
+place-requires : tie.Need-place-requires
+place-requires c κs = search needs
 
 same-length : tie.Need-same-length
 same-length c = search needs
@@ -32,7 +30,22 @@ same-length-2 : tie.Need-same-length-2
 same-length-2 c = search needs
 
 returns : tie.Need-returns
-returns c = head-props _ (listed-not _ _ _ _ _ _ _ _ _ (c .before .before .before .before .before .before .before .parse-props .ensures) (c .before .cause .given .1))
+returns c = head-props _ (listed-not _ _ _ _ _ _ _ _ _ (c .before .before .before .before .before .before .before .before .parse-props .ensures) (listed-told (c .before .before .enum-told .given .1) (c .before .cause .ensures) (c .place .ensures)))
+
+parse-params-requires : tie.Need-parse-params-requires
+parse-params-requires c κs = let l = (listed _ _ _ _ _ _ _ _ _ (c .before .before .before .before .before .before .before .before .before .parse-props .ensures) (c .before .before .before .listed .given .1)) in ready-on (c .before .before .before .before .before .before .before .before .before .before .before .before .before .before .before .pre) (l .onward) (l .lays)
+
+enum-known-named : tie.Need-enum-known-named
+enum-known-named c = search needs
+
+enum-told-2 : tie.Need-enum-told-2
+enum-told-2 c = search needs
+
+cause-requires-2 : tie.Need-cause-requires-2
+cause-requires-2 c κs = search needs
+
+place-requires-2 : tie.Need-place-requires-2
+place-requires-2 c κs = search needs
 
 same-length-3 : tie.Need-same-length-3
 same-length-3 c = search needs
@@ -41,7 +54,7 @@ same-length-4 : tie.Need-same-length-4
 same-length-4 c = search needs
 
 returns-2 : tie.Need-returns-2
-returns-2 c = head-params _ ((listed _ _ _ _ _ _ _ _ _ (c .before .before .before .before .before .before .before .before .before .before .before .before .before .before .before .before .before .parse-props .ensures) (c .before .before .before .before .before .before .before .before .before .before .before .u .given .1)) .gives) (listed-not _ _ _ _ _ _ _ _ _ (c .before .before .before .before .before .before .before .parse-params .ensures) (c .before .cause2 .given .1))
+returns-2 c = head-params _ ((listed _ _ _ _ _ _ _ _ _ (c .before .before .before .before .before .before .before .before .before .before .before .before .before .before .before .before .before .before .parse-props .ensures) (c .before .before .before .before .before .before .before .before .before .before .before .before .listed .given .1)) .gives) (listed-not _ _ _ _ _ _ _ _ _ (c .before .before .before .before .before .before .before .before .parse-params .ensures) (listed-told (c .before .before .enum-told2 .given .1) (c .before .cause2 .ensures) (c .place2 .ensures)))
 
 same-length-5 : tie.Need-same-length-5
 same-length-5 c = search needs
@@ -50,21 +63,25 @@ same-length-6 : tie.Need-same-length-6
 same-length-6 c = search needs
 
 returns-3 : tie.Need-returns-3
-returns-3 c = heads (listed _ _ _ _ _ _ _ _ _ (c .before .before .before .before .before .before .before .before .before .before .before .before .before .before .before .before .before .parse-props .ensures) (c .before .before .before .before .before .before .before .before .before .before .before .u .given .1)) (listed _ _ _ _ _ _ _ _ _ (c .before .before .before .before .before .before .before .parse-params .ensures) (c .before .v .given .1))
+returns-3 c = heads (listed _ _ _ _ _ _ _ _ _ (c .before .before .before .before .before .before .before .before .before .before .before .before .before .before .before .before .before .parse-props .ensures) (c .before .before .before .before .before .before .before .before .before .before .before .listed .given .1)) (listed _ _ _ _ _ _ _ _ _ (c .before .before .before .before .before .before .before .parse-params .ensures) (c .before .named .given .1))
 
 pub rule-head-spec : {M : Type 1} → statement M
 rule-head-spec =
     tie.close
     (tie.spec
     parse-props-requires
-    enum-known-cause
-    enum-known-u
-    parse-params-requires
-    enum-known-cause-2
-    enum-known-v
+    enum-known-listed
+    enum-told
+    cause-requires
+    place-requires
     same-length
     same-length-2
     returns
+    parse-params-requires
+    enum-known-named
+    enum-told-2
+    cause-requires-2
+    place-requires-2
     same-length-3
     same-length-4
     returns-2

@@ -1,6 +1,7 @@
 -- `props::opening` meets its contract.
 -- Assumes nothing.
 use Rattle.parser.proofs.Openings.{opening-closed, opening-refused, opening-item, opening-halt}
+use Rattle.tokens.proofs.Told.{arrived-told}
 use borrow.Author.Needs.{needs}
 use Rattle.parser.proofs.props.opening.Statement.{statement}
 use Rattle.parser.proofs.props.opening.Tie as tie
@@ -20,23 +21,29 @@ enum-told c = search needs
 separator-requires : tie.Need-separator-requires
 separator-requires c κs = search needs
 
-enum-known-u-2 : tie.Need-enum-known-u-2
-enum-known-u-2 c = search needs
+enum-known-arrived : tie.Need-enum-known-arrived
+enum-known-arrived c = search needs
 
-enum-known-cause-2 : tie.Need-enum-known-cause-2
-enum-known-cause-2 c = search needs
+enum-told-2 : tie.Need-enum-told-2
+enum-told-2 c = search needs
+
+cause-requires : tie.Need-cause-requires
+cause-requires c κs = search needs
+
+place-requires : tie.Need-place-requires
+place-requires c κs = search needs
 
 returns : tie.Need-returns
-returns c = opening-closed _ _ (c .before .before .before .before .before .pre .0) (c .before .before .before .before .before .pre .1) _ _ _ (c .before .before .before .eat-punctuation .ensures) (c .before .u .given .1)
+returns c = opening-halt _ _ (c .before .before .before .before .before .before .before .before .before .pre .0) (c .before .before .before .before .before .before .before .before .before .pre .1) _ _ _ (c .before .before .before .before .before .before .before .eat-punctuation .ensures) (c .before .before .before .before .before .enum-told .given .1) _ (c .before .before .before .before .separator .ensures) (arrived-told (c .before .before .enum-told2 .given .1) (c .before .cause2 .ensures) (c .place .ensures))
 
 returns-2 : tie.Need-returns-2
-returns-2 c = opening-refused _ _ (c .before .before .before .before .before .pre .0) (c .before .before .before .before .before .pre .1) _ _ _ (c .before .before .before .eat-punctuation .ensures) (c .before .cause .given .1)
+returns-2 c = opening-closed _ _ (c .before .before .before .before .before .pre .0) (c .before .before .before .before .before .pre .1) _ _ _ (c .before .before .before .eat-punctuation .ensures) (c .before .u .given .1)
 
 returns-3 : tie.Need-returns-3
-returns-3 c = opening-item _ _ (c .before .before .before .before .before .before .before .before .pre .0) (c .before .before .before .before .before .before .before .before .pre .1) _ _ _ (c .before .before .before .before .before .before .eat-punctuation .ensures) (c .before .before .before .before .enum-told .given .1) _ (c .before .before .before .separator .ensures) (c .before .u2 .given .1)
+returns-3 c = opening-refused _ _ (c .before .before .before .before .before .pre .0) (c .before .before .before .before .before .pre .1) _ _ _ (c .before .before .before .eat-punctuation .ensures) (c .before .cause .given .1)
 
 returns-4 : tie.Need-returns-4
-returns-4 c = opening-halt _ _ (c .before .before .before .before .before .before .before .before .pre .0) (c .before .before .before .before .before .before .before .before .pre .1) _ _ _ (c .before .before .before .before .before .before .eat-punctuation .ensures) (c .before .before .before .before .enum-told .given .1) _ (c .before .before .before .separator .ensures) (c .before .cause2 .given .1)
+returns-4 c = opening-item _ _ (c .before .before .before .before .before .before .before .before .pre .0) (c .before .before .before .before .before .before .before .before .pre .1) _ _ _ (c .before .before .before .before .before .before .eat-punctuation .ensures) (c .before .before .before .before .enum-told .given .1) _ (c .before .before .before .separator .ensures) (c .before .arrived .given .1)
 
 pub opening-spec : {M : Type 1} → statement M
 opening-spec =
@@ -47,8 +54,10 @@ opening-spec =
     enum-known-cause
     enum-told
     separator-requires
-    enum-known-u-2
-    enum-known-cause-2
+    enum-known-arrived
+    enum-told-2
+    cause-requires
+    place-requires
     returns
     returns-2
     returns-3

@@ -24,14 +24,17 @@ name-requires c κs = search needs
 enum-known-a-2 : tie.Need-enum-known-a-2
 enum-known-a-2 c = search needs
 
-prop-named-requires-2 : tie.Need-prop-named-requires-2
-prop-named-requires-2 c κs = (c .before .before .before .before .before .before .before .before .before .before .before .before .pre, (sym (c .before .before .before .before .before .before .before .before .at .ensures) ∙ c .before .before .before .before .before .before .enum-told .given .1, sym (c .before .before .before .before .before .name .ensures) ∙ c .before .before .before .a2 .given .1))
-
 enum-told-2 : tie.Need-enum-told-2
 enum-told-2 c = search needs
 
 start-requires : tie.Need-start-requires
 start-requires c κs = search needs
+
+returns : tie.Need-returns
+returns c = prop-none _ _ (sym (c .before .before .before .before .before .before .at .ensures) ∙ c .before .before .before .before .enum-told .given .1) (sym (c .before .before .before .name .ensures) ∙ c .before .enum-told2 .given .1) (c .start .ensures)
+
+prop-named-requires-2 : tie.Need-prop-named-requires-2
+prop-named-requires-2 c κs = (c .before .before .before .before .before .before .before .before .before .before .before .before .pre, (sym (c .before .before .before .before .before .before .before .before .at .ensures) ∙ c .before .before .before .before .before .before .enum-told .given .1, sym (c .before .before .before .before .before .name .ensures) ∙ c .before .before .before .a2 .given .1))
 
 same-length : tie.Need-same-length
 same-length c = search needs
@@ -39,8 +42,8 @@ same-length c = search needs
 same-length-2 : tie.Need-same-length-2
 same-length-2 c = search needs
 
-returns : tie.Need-returns
-returns c = c .before .before .before .before .prop-named .ensures
+returns-2 : tie.Need-returns-2
+returns-2 c = c .before .before .before .before .prop-named .ensures
 
 same-length-3 : tie.Need-same-length-3
 same-length-3 c = search needs
@@ -48,11 +51,8 @@ same-length-3 c = search needs
 same-length-4 : tie.Need-same-length-4
 same-length-4 c = search needs
 
-returns-2 : tie.Need-returns-2
-returns-2 c = c .before .before .before .before .prop-named2 .ensures
-
 returns-3 : tie.Need-returns-3
-returns-3 c = prop-none _ _ (sym (c .before .before .before .before .before .before .at .ensures) ∙ c .before .before .before .before .enum-told .given .1) (sym (c .before .before .before .name .ensures) ∙ c .before .enum-told2 .given .1) (c .start .ensures)
+returns-3 c = c .before .before .before .before .prop-named2 .ensures
 
 pub parse-prop-spec : {M : Type 1} → statement M
 parse-prop-spec =
@@ -64,13 +64,13 @@ parse-prop-spec =
     enum-told
     name-requires
     enum-known-a-2
-    prop-named-requires-2
     enum-told-2
     start-requires
+    returns
+    prop-named-requires-2
     same-length
     same-length-2
-    returns
+    returns-2
     same-length-3
     same-length-4
-    returns-2
     returns-3)

@@ -3,6 +3,7 @@
 use native.Mathlib.Omega.{arith}
 use Rattle.parser.proofs.Ready.{put-asks, part-short, string-in}
 use Rattle.parser.proofs.PropRules.{string-refused, string-found}
+use Rattle.tokens.proofs.Told.{arrived-told}
 use borrow.Author.Needs.{needs}
 use Rattle.parser.proofs.props.part_string.Statement.{statement}
 use Rattle.parser.proofs.props.part_string.Tie as tie
@@ -10,11 +11,20 @@ use Rattle.parser.proofs.props.part_string.Tie as tie
 next-requires : tie.Need-next-requires
 next-requires c κs = search needs
 
-enum-known-cause : tie.Need-enum-known-cause
-enum-known-cause c = search needs
+enum-known-arrived : tie.Need-enum-known-arrived
+enum-known-arrived c = search needs
 
-enum-known-u : tie.Need-enum-known-u
-enum-known-u c = search needs
+enum-told : tie.Need-enum-told
+enum-told c = search needs
+
+cause-requires : tie.Need-cause-requires
+cause-requires c κs = search needs
+
+place-requires : tie.Need-place-requires
+place-requires c κs = search needs
+
+returns : tie.Need-returns
+returns c = let o = c .before .before .before .before .before .before .before .before in string-refused _ _ (o .pre .0) (o .pre .1) _ (c .before .before .before .before .next .ensures) (arrived-told (c .before .before .enum-told .given .1) (c .before .cause .ensures) (c .place .ensures))
 
 sub-put-string : tie.Need-sub-put-string
 sub-put-string c = let o = c .before .before .before .before .before .before .before in string-in (o .pre .0) (o .pre .1) .part .forth
@@ -31,9 +41,6 @@ start-requires c κs = search needs
 put-string-requires : tie.Need-put-string-requires
 put-string-requires c κs = let o = c .before .before .before .before .before .before .before .before .before .before .before in put-asks (o .pre .0) (o .pre .0) (c .before .before .start .ensures) (omega arith) (part-short _ (string-in (o .pre .0) (o .pre .1) .part))
 
-returns : tie.Need-returns
-returns c = let o = c .before .before .before .before .before .before .before in string-refused _ _ (o .pre .0) (o .pre .1) _ (c .before .before .before .next .ensures) (c .before .cause .given .1)
-
 same-length : tie.Need-same-length
 same-length c = search needs
 
@@ -41,21 +48,23 @@ same-length-2 : tie.Need-same-length-2
 same-length-2 c = search needs
 
 returns-2 : tie.Need-returns-2
-returns-2 c = let o = c .before .before .before .before .before .before .before .before .before .before .before .before .before .before .before .before in string-found _ _ (o .pre .0) (o .pre .1) _ (c .before .before .before .before .before .before .before .before .before .before .before .before .next .ensures) (c .before .before .before .before .before .before .before .before .before .before .u .given .1) (c .before .before .before .before .before .before .before .start .ensures) (c .before .before .before .before .put-string .ensures)
+returns-2 c = let o = c .before .before .before .before .before .before .before .before .before .before .before .before .before .before .before .before in string-found _ _ (o .pre .0) (o .pre .1) _ (c .before .before .before .before .before .before .before .before .before .before .before .before .next .ensures) (c .before .before .before .before .before .before .before .before .before .before .arrived .given .1) (c .before .before .before .before .before .before .before .start .ensures) (c .before .before .before .before .put-string .ensures)
 
 pub part-string-spec : {M : Type 1} → statement M
 part-string-spec =
     tie.close
     (tie.spec
     next-requires
-    enum-known-cause
-    enum-known-u
+    enum-known-arrived
+    enum-told
+    cause-requires
+    place-requires
+    returns
     sub-put-string
     part-put-string-start
     part-put-string-end
     start-requires
     put-string-requires
-    returns
     same-length
     same-length-2
     returns-2)

@@ -11,6 +11,7 @@ use Rattle.parser.specs.Storing.{lent, nodesOf}
 use Rattle.notation.specs.Expressions.{parseProp}
 use Rattle.parser.specs.declared.props.Comma.the-variants.{Must}
 use Rattle.tree.specs.Stored.{propBranch}
+use Rattle.parser.proofs.Told.{parsed-told}
 use borrow.Author.Needs.{needs}
 use Rattle.parser.proofs.props.props_list.Statement.{statement}
 use Rattle.parser.proofs.props.props_list.Tie as tie
@@ -57,29 +58,35 @@ enum-known-u-2 c = search needs
 parse-prop-requires : tie.Need-parse-prop-requires Inv-loop μ-loop
 parse-prop-requires c κs = ready-step (ready-on (c .before .before .before .before .before .before .before .before .before .before .pre) (c .before .before .before .before .before .before .loop .inv .onward) (c .before .before .before .before .before .before .loop .inv .lays)) (item-onward "]" (c .before .before .before .before .before .opening .ensures) (c .before .before .before .u2 .given .1))
 
-enum-known-cause-2 : tie.Need-enum-known-cause-2 Inv-loop μ-loop
-enum-known-cause-2 c = search needs
+enum-known-parsed : tie.Need-enum-known-parsed Inv-loop μ-loop
+enum-known-parsed c = search needs
+
+enum-told : tie.Need-enum-told Inv-loop μ-loop
+enum-told c = search needs
+
+cause-requires : tie.Need-cause-requires Inv-loop μ-loop
+cause-requires c κs = search needs
+
+place-requires : tie.Need-place-requires Inv-loop μ-loop
+place-requires c κs = search needs
 
 same-length-5 : tie.Need-same-length-5 Inv-loop μ-loop
-same-length-5 c = omega (arith, c .before .before .before .before .before .before .before .before .before .before .before .before .before .before .loop .inv .lays .stores .same-words)
+same-length-5 c = omega (arith, c .before .before .before .before .before .before .before .before .before .before .before .before .before .before .before .loop .inv .lays .stores .same-words)
 
 same-length-6 : tie.Need-same-length-6 Inv-loop μ-loop
-same-length-6 c = omega (arith, c .before .before .before .before .before .before .before .before .before .before .before .before .before .before .loop .inv .lays .stores .same-texts)
+same-length-6 c = omega (arith, c .before .before .before .before .before .before .before .before .before .before .before .before .before .before .before .loop .inv .lays .stores .same-texts)
 
 returns-3 : tie.Need-returns-3 Inv-loop μ-loop
-returns-3 c = item-refused "]" Must (λ _. parseProp) (c .before .before .before .before .before .before .before .before .before .before .before .before .before .before .loop .inv) _ (c .before .before .before .before .before .before .before .before .before .before .before .before .before .opening .ensures) (c .before .before .before .before .before .before .before .before .before .before .before .u2 .given .1) _ refl _ _ _ (c .before .before .before .before .before .before .before .parse-prop .ensures) (c .before .cause2 .given .1)
-
-enum-known-v : tie.Need-enum-known-v Inv-loop μ-loop
-enum-known-v c = search needs
+returns-3 c = item-refused "]" Must (λ _. parseProp) (c .before .before .before .before .before .before .before .before .before .before .before .before .before .before .before .loop .inv) _ (c .before .before .before .before .before .before .before .before .before .before .before .before .before .before .opening .ensures) (c .before .before .before .before .before .before .before .before .before .before .before .before .u2 .given .1) _ refl _ _ _ (c .before .before .before .before .before .before .before .before .parse-prop .ensures) (parsed-told (c .before .before .enum-told .given .1) (c .before .cause2 .ensures) (c .place .ensures))
 
 add-count : tie.Need-add-count Inv-loop μ-loop
 add-count c = omega (arith, listing-small propBranch (c .before .before .before .before .before .before .before .before .before .before .before .before .before .before .loop .inv) (c .before .before .before .before .before .before .before .before .before .before .before .before .before .before .before .before .before .before .pre .small) (omega arith))
 
 loop-less : tie.Need-loop-less Inv-loop μ-loop
-loop-less c = omega (arith, item-more "]" Must (λ _. parseProp) (c .before .before .before .before .before .before .before .before .before .before .before .before .before .before .loop .inv) _ (c .before .before .before .before .before .before .before .before .before .before .before .before .before .opening .ensures) (c .before .before .before .before .before .before .before .before .before .before .before .u2 .given .1) _ refl _ _ _ (c .before .before .before .before .before .before .before .parse-prop .ensures) (c .before .v .given .1) .0 .fewer)
+loop-less c = omega (arith, item-more "]" Must (λ _. parseProp) (c .before .before .before .before .before .before .before .before .before .before .before .before .before .before .loop .inv) _ (c .before .before .before .before .before .before .before .before .before .before .before .before .before .opening .ensures) (c .before .before .before .before .before .before .before .before .before .before .before .u2 .given .1) _ refl _ _ _ (c .before .before .before .before .before .before .before .parse-prop .ensures) (c .before .parsed .given .1) .0 .fewer)
 
 loop-again : tie.Need-loop-again Inv-loop μ-loop
-loop-again c = item-more "]" Must (λ _. parseProp) (c .before .before .before .before .before .before .before .before .before .before .before .before .before .before .loop .inv) _ (c .before .before .before .before .before .before .before .before .before .before .before .before .before .opening .ensures) (c .before .before .before .before .before .before .before .before .before .before .before .u2 .given .1) _ refl _ _ _ (c .before .before .before .before .before .before .before .parse-prop .ensures) (c .before .v .given .1) .1
+loop-again c = item-more "]" Must (λ _. parseProp) (c .before .before .before .before .before .before .before .before .before .before .before .before .before .before .loop .inv) _ (c .before .before .before .before .before .before .before .before .before .before .before .before .before .opening .ensures) (c .before .before .before .before .before .before .before .before .before .before .before .u2 .given .1) _ refl _ _ _ (c .before .before .before .before .before .before .before .parse-prop .ensures) (c .before .parsed .given .1) .1
 
 pub props-list-spec : {M : Type 1} → statement M
 props-list-spec =
@@ -99,11 +106,13 @@ props-list-spec =
     returns-2
     enum-known-u-2
     parse-prop-requires
-    enum-known-cause-2
+    enum-known-parsed
+    enum-told
+    cause-requires
+    place-requires
     same-length-5
     same-length-6
     returns-3
-    enum-known-v
     add-count
     loop-less
     loop-again)

@@ -7,6 +7,8 @@ use Rattle.declarations.proofs.SourceLaws.{source-at, source-not, from-small}
 use Rattle.reader.proofs.RoomyLaws.{roomy-ready}
 use Rattle.reader.proofs.Gathered.{gathered, gathered-not}
 use Rattle.reader.proofs.DirectiveLaws.{gathers-small, set-name, set-source, set-block, set-room, set-asks, set-given}
+use Rattle.tokens.proofs.Told.{taken-told}
+use Rattle.parser.proofs.Told.{listed-told}
 use borrow.Author.Needs.{needs}
 use Rattle.reader.proofs.directives.parse_external_set.Statement.{statement}
 use Rattle.reader.proofs.directives.parse_external_set.Tie as tie
@@ -14,65 +16,65 @@ use Rattle.reader.proofs.directives.parse_external_set.Tie as tie
 parse-identifier-requires : tie.Need-parse-identifier-requires
 parse-identifier-requires c κs = search needs
 
-enum-known-cause : tie.Need-enum-known-cause
-enum-known-cause c = search needs
+enum-known-taken : tie.Need-enum-known-taken
+enum-known-taken c = search needs
 
-enum-known-a : tie.Need-enum-known-a
-enum-known-a c = search needs
+enum-told : tie.Need-enum-told
+enum-told c = search needs
 
-parse-source-requires : tie.Need-parse-source-requires
-parse-source-requires c κs = name-got _ _ (c .before .before .before .before .before .before .before .pre .0 .lies) (c .before .a .given .1) (c .before .before .before .parse-identifier .ensures) .1 .onward .lies
+cause-requires : tie.Need-cause-requires
+cause-requires c κs = search needs
 
-enum-known-cause-2 : tie.Need-enum-known-cause-2
-enum-known-cause-2 c = search needs
-
-enum-known-b : tie.Need-enum-known-b
-enum-known-b c = search needs
-
-sub-put-string : tie.Need-sub-put-string
-sub-put-string c = source-at _ _ _ (c .before .before .before .parse-source .ensures) (c .before .b .given .1) .part .forth
-
-part-put-string-start : tie.Need-part-put-string-start
-part-put-string-start c = source-at _ _ _ (c .before .before .before .parse-source .ensures) (c .before .b .given .1) .part .forth
-
-part-put-string-end : tie.Need-part-put-string-end
-part-put-string-end c = source-at _ _ _ (c .before .before .before .parse-source .ensures) (c .before .b .given .1) .part .inside
-
-put-string-requires : tie.Need-put-string-requires
-put-string-requires c κs = let r = roomy-ready (c .before .before .before .before .before .before .before .before .before .before .before .before .before .before .pre .0) in let w = from-small r in short-asks (r .small) (part-short _ (source-at _ _ _ (c .before .before .before .before .before .before .parse-source .ensures) (c .before .before .before .before .b .given .1) .part)) (omega arith) (omega arith) (let k = w .0 in omega arith) (let k = w .1 in omega arith)
-
-parse-block-requires : tie.Need-parse-block-requires
-parse-block-requires c κs = set-room (c .before .before .before .before .before .before .before .before .before .before .before .before .before .before .before .before .before .before .before .before .before .pre .0) _ (c .before .before .before .before .before .before .before .before .before .before .before .before .before .before .before .before .before .parse-identifier .ensures) (c .before .before .before .before .before .before .before .before .before .before .before .before .before .before .before .a .given .1) (source-at _ _ _ (c .before .before .before .before .before .before .before .before .before .before .before .before .before .parse-source .ensures) (c .before .before .before .before .before .before .before .before .before .before .before .b .given .1)) (c .before .before .before .before .before .before .put-string .ensures)
-
-enum-known-cause-3 : tie.Need-enum-known-cause-3
-enum-known-cause-3 c = search needs
-
-enum-known-w : tie.Need-enum-known-w
-enum-known-w c = search needs
-
-sub-put-named : tie.Need-sub-put-named
-sub-put-named c = name-got _ _ (c .before .before .before .before .before .before .before .before .before .before .before .before .before .before .before .before .before .before .before .before .before .before .before .before .before .before .before .before .before .pre .0 .lies) (c .before .before .before .before .before .before .before .before .before .before .before .before .before .before .before .before .before .before .before .before .before .before .before .a .given .1) (c .before .before .before .before .before .before .before .before .before .before .before .before .before .before .before .before .before .before .before .before .before .before .before .before .before .parse-identifier .ensures) .0 .part .forth
-
-part-put-named-start : tie.Need-part-put-named-start
-part-put-named-start c = name-got _ _ (c .before .before .before .before .before .before .before .before .before .before .before .before .before .before .before .before .before .before .before .before .before .before .before .before .before .before .before .before .before .pre .0 .lies) (c .before .before .before .before .before .before .before .before .before .before .before .before .before .before .before .before .before .before .before .before .before .before .before .a .given .1) (c .before .before .before .before .before .before .before .before .before .before .before .before .before .before .before .before .before .before .before .before .before .before .before .before .before .parse-identifier .ensures) .0 .part .forth
-
-part-put-named-end : tie.Need-part-put-named-end
-part-put-named-end c = name-got _ _ (c .before .before .before .before .before .before .before .before .before .before .before .before .before .before .before .before .before .before .before .before .before .before .before .before .before .before .before .before .before .pre .0 .lies) (c .before .before .before .before .before .before .before .before .before .before .before .before .before .before .before .before .before .before .before .before .before .before .before .a .given .1) (c .before .before .before .before .before .before .before .before .before .before .before .before .before .before .before .before .before .before .before .before .before .before .before .before .before .parse-identifier .ensures) .0 .part .inside
-
-add-put-named : tie.Need-add-put-named
-add-put-named c = omega (arith, c .before .before .before .before .before .before .before .before .before .before .before .before .before .before .before .before .before .before .before .before .before .before .before .before .before .before .before .before .before .before .pre .2)
-
-add-put-named-2 : tie.Need-add-put-named-2
-add-put-named-2 c = let g = gathers-small (gathered _ _ _ _ _ _ _ _ (c .before .before .before .before .before .before .before .before .parse-block .result) (c .before .before .before .before .before .before .before .before .parse-block .ensures) (c .before .before .w .given .1)) (c .before .before .before .before .before .before .before .before .before .before .before .before .before .before .before .before .before .before .before .before .before .before .before .before .before .before .before .before .before .before .pre .0 .small) in omega (arith, c .before .before .before .before .before .before .before .before .before .before .before .before .before .before .before .before .before .before .before .before .before .before .before .before .before .before .before .before .before .before .pre .2)
-
-put-named-requires : tie.Need-put-named-requires
-put-named-requires c κs = set-asks (c .before .before .before .before .before .before .before .before .before .before .before .before .before .before .before .before .before .before .before .before .before .before .before .before .before .before .before .before .before .before .before .before .pre .0) _ (c .before .before .before .before .before .before .before .before .before .before .before .before .before .before .before .before .before .before .before .before .before .before .before .before .before .before .before .before .parse-identifier .ensures) (c .before .before .before .before .before .before .before .before .before .before .before .before .before .before .before .before .before .before .before .before .before .before .before .before .before .before .a .given .1) (source-at _ _ _ (c .before .before .before .before .before .before .before .before .before .before .before .before .before .before .before .before .before .before .before .before .before .before .before .before .parse-source .ensures) (c .before .before .before .before .before .before .before .before .before .before .before .before .before .before .before .before .before .before .before .before .before .before .b .given .1)) (c .before .before .before .before .before .before .before .before .before .before .before .before .before .before .before .before .before .put-string .ensures) (c .before .before .before .before .before .before .before .before .before .before .before .before .before .before .before .before .before .before .before .before .before .before .before .before .before .before .before .before .before .before .before .before .args .block) (gathered _ _ _ _ _ _ _ _ (c .before .before .before .before .before .before .before .before .before .before .parse-block .result) (c .before .before .before .before .before .before .before .before .before .before .parse-block .ensures) (c .before .before .before .before .w .given .1)) (c .before .before .before .before .before .before .before .before .before .before .before .before .before .before .before .before .before .before .before .before .before .before .before .before .before .before .before .before .before .before .before .before .pre .1) (omega (arith, c .before .before .before .before .before .before .before .before .before .before .before .before .before .before .before .before .before .before .before .before .before .before .before .before .before .before .before .before .before .before .before .before .pre .2))
+place-requires : tie.Need-place-requires
+place-requires c κs = search needs
 
 returns : tie.Need-returns
-returns c = set-name _ _ (taken-not _ _ _ (c .before .before .before .parse-identifier .ensures .takes) (c .before .cause .given .1))
+returns c = set-name _ _ (taken-not _ _ _ (c .before .before .before .before .parse-identifier .ensures .takes) (taken-told (c .before .before .enum-told .given .1) (c .before .cause .ensures) (c .place .ensures)))
+
+parse-source-requires : tie.Need-parse-source-requires
+parse-source-requires c κs = name-got _ _ (c .before .before .before .before .before .before .before .pre .0 .lies) (c .before .taken .given .1) (c .before .before .before .parse-identifier .ensures) .1 .onward .lies
+
+enum-known-sourced : tie.Need-enum-known-sourced
+enum-known-sourced c = search needs
+
+enum-told-2 : tie.Need-enum-told-2
+enum-told-2 c = search needs
+
+cause-requires-2 : tie.Need-cause-requires-2
+cause-requires-2 c κs = search needs
+
+place-requires-2 : tie.Need-place-requires-2
+place-requires-2 c κs = search needs
 
 returns-2 : tie.Need-returns-2
-returns-2 c = set-source _ _ (taken-at _ _ _ (c .before .before .before .before .before .before .before .parse-identifier .ensures .takes) (c .before .before .before .before .before .a .given .1)) (source-not _ _ _ (c .before .before .before .parse-source .ensures) (c .before .cause2 .given .1))
+returns-2 c = set-source _ _ (taken-at _ _ _ (c .before .before .before .before .before .before .before .before .parse-identifier .ensures .takes) (c .before .before .before .before .before .before .taken .given .1)) (source-not _ _ _ (c .before .before .before .before .parse-source .ensures) (taken-told (c .before .before .enum-told2 .given .1) (c .before .cause2 .ensures) (c .place2 .ensures)))
+
+sub-put-string : tie.Need-sub-put-string
+sub-put-string c = source-at _ _ _ (c .before .before .before .parse-source .ensures) (c .before .sourced .given .1) .part .forth
+
+part-put-string-start : tie.Need-part-put-string-start
+part-put-string-start c = source-at _ _ _ (c .before .before .before .parse-source .ensures) (c .before .sourced .given .1) .part .forth
+
+part-put-string-end : tie.Need-part-put-string-end
+part-put-string-end c = source-at _ _ _ (c .before .before .before .parse-source .ensures) (c .before .sourced .given .1) .part .inside
+
+put-string-requires : tie.Need-put-string-requires
+put-string-requires c κs = let r = roomy-ready (c .before .before .before .before .before .before .before .before .before .before .before .before .before .before .pre .0) in let w = from-small r in short-asks (r .small) (part-short _ (source-at _ _ _ (c .before .before .before .before .before .before .parse-source .ensures) (c .before .before .before .before .sourced .given .1) .part)) (omega arith) (omega arith) (let k = w .0 in omega arith) (let k = w .1 in omega arith)
+
+parse-block-requires : tie.Need-parse-block-requires
+parse-block-requires c κs = set-room (c .before .before .before .before .before .before .before .before .before .before .before .before .before .before .before .before .before .before .before .before .before .pre .0) _ (c .before .before .before .before .before .before .before .before .before .before .before .before .before .before .before .before .before .parse-identifier .ensures) (c .before .before .before .before .before .before .before .before .before .before .before .before .before .before .before .taken .given .1) (source-at _ _ _ (c .before .before .before .before .before .before .before .before .before .before .before .before .before .parse-source .ensures) (c .before .before .before .before .before .before .before .before .before .before .before .sourced .given .1)) (c .before .before .before .before .before .before .put-string .ensures)
+
+enum-known-listed : tie.Need-enum-known-listed
+enum-known-listed c = search needs
+
+enum-told-3 : tie.Need-enum-told-3
+enum-told-3 c = search needs
+
+cause-requires-3 : tie.Need-cause-requires-3
+cause-requires-3 c κs = search needs
+
+place-requires-3 : tie.Need-place-requires-3
+place-requires-3 c κs = search needs
 
 same-length : tie.Need-same-length
 same-length c = search needs
@@ -81,7 +83,25 @@ same-length-2 : tie.Need-same-length-2
 same-length-2 c = search needs
 
 returns-3 : tie.Need-returns-3
-returns-3 c = set-block _ _ (taken-at _ _ _ (c .before .before .before .before .before .before .before .before .before .before .before .before .before .before .before .before .before .before .before .before .before .before .before .before .before .parse-identifier .ensures .takes) (c .before .before .before .before .before .before .before .before .before .before .before .before .before .before .before .before .before .before .before .before .before .before .before .a .given .1)) (source-at _ _ _ (c .before .before .before .before .before .before .before .before .before .before .before .before .before .before .before .before .before .before .before .before .before .parse-source .ensures) (c .before .before .before .before .before .before .before .before .before .before .before .before .before .before .before .before .before .before .before .b .given .1) .gives) (gathered-not _ _ _ _ _ _ _ _ (c .before .before .before .before .before .before .before .parse-block .result) (c .before .before .before .before .before .before .before .parse-block .ensures) (c .before .cause3 .given .1))
+returns-3 c = set-block _ _ (taken-at _ _ _ (c .before .before .before .before .before .before .before .before .before .before .before .before .before .before .before .before .before .before .before .before .before .before .before .before .before .before .parse-identifier .ensures .takes) (c .before .before .before .before .before .before .before .before .before .before .before .before .before .before .before .before .before .before .before .before .before .before .before .before .taken .given .1)) (source-at _ _ _ (c .before .before .before .before .before .before .before .before .before .before .before .before .before .before .before .before .before .before .before .before .before .before .parse-source .ensures) (c .before .before .before .before .before .before .before .before .before .before .before .before .before .before .before .before .before .before .before .before .sourced .given .1) .gives) (gathered-not _ _ _ _ _ _ _ _ (c .before .before .before .before .before .before .before .before .parse-block .result) (c .before .before .before .before .before .before .before .before .parse-block .ensures) (listed-told (c .before .before .enum-told3 .given .1) (c .before .cause3 .ensures) (c .place3 .ensures)))
+
+sub-put-named : tie.Need-sub-put-named
+sub-put-named c = name-got _ _ (c .before .before .before .before .before .before .before .before .before .before .before .before .before .before .before .before .before .before .before .before .before .before .before .before .before .before .before .before .before .pre .0 .lies) (c .before .before .before .before .before .before .before .before .before .before .before .before .before .before .before .before .before .before .before .before .before .before .before .taken .given .1) (c .before .before .before .before .before .before .before .before .before .before .before .before .before .before .before .before .before .before .before .before .before .before .before .before .before .parse-identifier .ensures) .0 .part .forth
+
+part-put-named-start : tie.Need-part-put-named-start
+part-put-named-start c = name-got _ _ (c .before .before .before .before .before .before .before .before .before .before .before .before .before .before .before .before .before .before .before .before .before .before .before .before .before .before .before .before .before .pre .0 .lies) (c .before .before .before .before .before .before .before .before .before .before .before .before .before .before .before .before .before .before .before .before .before .before .before .taken .given .1) (c .before .before .before .before .before .before .before .before .before .before .before .before .before .before .before .before .before .before .before .before .before .before .before .before .before .parse-identifier .ensures) .0 .part .forth
+
+part-put-named-end : tie.Need-part-put-named-end
+part-put-named-end c = name-got _ _ (c .before .before .before .before .before .before .before .before .before .before .before .before .before .before .before .before .before .before .before .before .before .before .before .before .before .before .before .before .before .pre .0 .lies) (c .before .before .before .before .before .before .before .before .before .before .before .before .before .before .before .before .before .before .before .before .before .before .before .taken .given .1) (c .before .before .before .before .before .before .before .before .before .before .before .before .before .before .before .before .before .before .before .before .before .before .before .before .before .parse-identifier .ensures) .0 .part .inside
+
+add-put-named : tie.Need-add-put-named
+add-put-named c = omega (arith, c .before .before .before .before .before .before .before .before .before .before .before .before .before .before .before .before .before .before .before .before .before .before .before .before .before .before .before .before .before .before .pre .2)
+
+add-put-named-2 : tie.Need-add-put-named-2
+add-put-named-2 c = let g = gathers-small (gathered _ _ _ _ _ _ _ _ (c .before .before .before .before .before .before .before .before .parse-block .result) (c .before .before .before .before .before .before .before .before .parse-block .ensures) (c .before .before .listed .given .1)) (c .before .before .before .before .before .before .before .before .before .before .before .before .before .before .before .before .before .before .before .before .before .before .before .before .before .before .before .before .before .before .pre .0 .small) in omega (arith, c .before .before .before .before .before .before .before .before .before .before .before .before .before .before .before .before .before .before .before .before .before .before .before .before .before .before .before .before .before .before .pre .2)
+
+put-named-requires : tie.Need-put-named-requires
+put-named-requires c κs = set-asks (c .before .before .before .before .before .before .before .before .before .before .before .before .before .before .before .before .before .before .before .before .before .before .before .before .before .before .before .before .before .before .before .before .pre .0) _ (c .before .before .before .before .before .before .before .before .before .before .before .before .before .before .before .before .before .before .before .before .before .before .before .before .before .before .before .before .parse-identifier .ensures) (c .before .before .before .before .before .before .before .before .before .before .before .before .before .before .before .before .before .before .before .before .before .before .before .before .before .before .taken .given .1) (source-at _ _ _ (c .before .before .before .before .before .before .before .before .before .before .before .before .before .before .before .before .before .before .before .before .before .before .before .before .parse-source .ensures) (c .before .before .before .before .before .before .before .before .before .before .before .before .before .before .before .before .before .before .before .before .before .before .sourced .given .1)) (c .before .before .before .before .before .before .before .before .before .before .before .before .before .before .before .before .before .put-string .ensures) (c .before .before .before .before .before .before .before .before .before .before .before .before .before .before .before .before .before .before .before .before .before .before .before .before .before .before .before .before .before .before .before .before .args .block) (gathered _ _ _ _ _ _ _ _ (c .before .before .before .before .before .before .before .before .before .before .parse-block .result) (c .before .before .before .before .before .before .before .before .before .before .parse-block .ensures) (c .before .before .before .before .listed .given .1)) (c .before .before .before .before .before .before .before .before .before .before .before .before .before .before .before .before .before .before .before .before .before .before .before .before .before .before .before .before .before .before .before .before .pre .1) (omega (arith, c .before .before .before .before .before .before .before .before .before .before .before .before .before .before .before .before .before .before .before .before .before .before .before .before .before .before .before .before .before .before .before .before .pre .2))
 
 same-length-3 : tie.Need-same-length-3
 same-length-3 c = search needs
@@ -90,36 +110,42 @@ same-length-4 : tie.Need-same-length-4
 same-length-4 c = search needs
 
 returns-4 : tie.Need-returns-4
-returns-4 c = set-given (c .before .before .before .before .before .before .before .before .before .before .before .before .before .before .before .before .before .before .before .before .before .before .before .before .before .before .before .before .before .before .before .before .before .before .before .before .before .pre .0) _ (c .before .before .before .before .before .before .before .before .before .before .before .before .before .before .before .before .before .before .before .before .before .before .before .before .before .before .before .before .before .before .before .before .before .parse-identifier .ensures) (c .before .before .before .before .before .before .before .before .before .before .before .before .before .before .before .before .before .before .before .before .before .before .before .before .before .before .before .before .before .before .before .a .given .1) (source-at _ _ _ (c .before .before .before .before .before .before .before .before .before .before .before .before .before .before .before .before .before .before .before .before .before .before .before .before .before .before .before .before .before .parse-source .ensures) (c .before .before .before .before .before .before .before .before .before .before .before .before .before .before .before .before .before .before .before .before .before .before .before .before .before .before .before .b .given .1)) (c .before .before .before .before .before .before .before .before .before .before .before .before .before .before .before .before .before .before .before .before .before .before .put-string .ensures) (c .before .before .before .before .before .before .before .before .before .before .before .before .before .before .before .before .before .before .before .before .before .before .before .before .before .before .before .before .before .before .before .before .before .before .before .before .before .args .block) (gathered _ _ _ _ _ _ _ _ (c .before .before .before .before .before .before .before .before .before .before .before .before .before .before .before .parse-block .result) (c .before .before .before .before .before .before .before .before .before .before .before .before .before .before .before .parse-block .ensures) (c .before .before .before .before .before .before .before .before .before .w .given .1)) (c .before .before .before .before .before .before .before .before .before .before .before .before .before .before .before .before .before .before .before .before .before .before .before .before .before .before .before .before .before .before .before .before .before .before .before .before .before .args .before) (c .before .before .before .before .put-named .ensures)
+returns-4 c = set-given (c .before .before .before .before .before .before .before .before .before .before .before .before .before .before .before .before .before .before .before .before .before .before .before .before .before .before .before .before .before .before .before .before .before .before .before .before .before .pre .0) _ (c .before .before .before .before .before .before .before .before .before .before .before .before .before .before .before .before .before .before .before .before .before .before .before .before .before .before .before .before .before .before .before .before .before .parse-identifier .ensures) (c .before .before .before .before .before .before .before .before .before .before .before .before .before .before .before .before .before .before .before .before .before .before .before .before .before .before .before .before .before .before .before .taken .given .1) (source-at _ _ _ (c .before .before .before .before .before .before .before .before .before .before .before .before .before .before .before .before .before .before .before .before .before .before .before .before .before .before .before .before .before .parse-source .ensures) (c .before .before .before .before .before .before .before .before .before .before .before .before .before .before .before .before .before .before .before .before .before .before .before .before .before .before .before .sourced .given .1)) (c .before .before .before .before .before .before .before .before .before .before .before .before .before .before .before .before .before .before .before .before .before .before .put-string .ensures) (c .before .before .before .before .before .before .before .before .before .before .before .before .before .before .before .before .before .before .before .before .before .before .before .before .before .before .before .before .before .before .before .before .before .before .before .before .before .args .block) (gathered _ _ _ _ _ _ _ _ (c .before .before .before .before .before .before .before .before .before .before .before .before .before .before .before .parse-block .result) (c .before .before .before .before .before .before .before .before .before .before .before .before .before .before .before .parse-block .ensures) (c .before .before .before .before .before .before .before .before .before .listed .given .1)) (c .before .before .before .before .before .before .before .before .before .before .before .before .before .before .before .before .before .before .before .before .before .before .before .before .before .before .before .before .before .before .before .before .before .before .before .before .before .args .before) (c .before .before .before .before .put-named .ensures)
 
 pub parse-external-set-spec : {M : Type 1} → statement M
 parse-external-set-spec =
     tie.close
     (tie.spec
     parse-identifier-requires
-    enum-known-cause
-    enum-known-a
+    enum-known-taken
+    enum-told
+    cause-requires
+    place-requires
+    returns
     parse-source-requires
-    enum-known-cause-2
-    enum-known-b
+    enum-known-sourced
+    enum-told-2
+    cause-requires-2
+    place-requires-2
+    returns-2
     sub-put-string
     part-put-string-start
     part-put-string-end
     put-string-requires
     parse-block-requires
-    enum-known-cause-3
-    enum-known-w
+    enum-known-listed
+    enum-told-3
+    cause-requires-3
+    place-requires-3
+    same-length
+    same-length-2
+    returns-3
     sub-put-named
     part-put-named-start
     part-put-named-end
     add-put-named
     add-put-named-2
     put-named-requires
-    returns
-    returns-2
-    same-length
-    same-length-2
-    returns-3
     same-length-3
     same-length-4
     returns-4)

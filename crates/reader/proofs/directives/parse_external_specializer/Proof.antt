@@ -10,6 +10,8 @@ use Rattle.reader.specs.Directives.{specializeBy}
 use Rattle.reader.proofs.RoomyLaws.{roomy-ready, roomy-step, roomy-on}
 use Rattle.reader.proofs.TopLaws.{past-not, past-at, past-onward, parses-past}
 use Rattle.reader.proofs.DirectiveLaws.{specializer-halt, specializer-parsed}
+use Rattle.tokens.proofs.Told.{arrived-told}
+use Rattle.parser.proofs.Told.{expressed-told}
 use borrow.Author.Needs.{needs}
 use Rattle.reader.proofs.directives.parse_external_specializer.Statement.{statement}
 use Rattle.reader.proofs.directives.parse_external_specializer.Tie as tie
@@ -17,29 +19,35 @@ use Rattle.reader.proofs.directives.parse_external_specializer.Tie as t
 next-requires : tie.Need-next-requires
 next-requires c κs = search needs
 
-enum-known-cause : tie.Need-enum-known-cause
-enum-known-cause c = search needs
+enum-known-arrived : tie.Need-enum-known-arrived
+enum-known-arrived c = search needs
 
-enum-known-u : tie.Need-enum-known-u
-enum-known-u c = search needs
+enum-told : tie.Need-enum-told
+enum-told c = search needs
 
-braced-requires : tie.Need-braced-requires
-braced-requires c κs = roomy-ready (roomy-step (c .before .before .before .before .before .before .before .before .before .pre .0) (past-onward _ _ _ (c .before .before .before .before .before .next .ensures) (c .before .before .before .u .given .1) (c .before .before .before .before .before .before .before .before .before .pre .1) (c .before .before .before .before .before .before .before .before .before .pre .0 .lies)))
+cause-requires : tie.Need-cause-requires
+cause-requires c κs = search needs
 
-enum-known-cause-2 : tie.Need-enum-known-cause-2
-enum-known-cause-2 c = search needs
-
-enum-known-v : tie.Need-enum-known-v
-enum-known-v c = search needs
-
-specialize-value-requires : tie.Need-specialize-value-requires
-specialize-value-requires c κs = search needs
-
-parse-external-set-requires : tie.Need-parse-external-set-requires
-parse-external-set-requires c κs = let g = (braced-read _ _ _ _ _ _ _ (c .before .before .before .before .before .before .before .before .before .before .braced .ensures) (c .before .before .before .before .v .given .1)) in (roomy-on (roomy-step (c .before .before .before .before .before .before .before .before .before .before .before .before .before .before .before .before .before .before .before .before .pre .0) (past-onward _ _ _ (c .before .before .before .before .before .before .before .before .before .before .before .before .before .before .before .before .next .ensures) (c .before .before .before .before .before .before .before .before .before .before .before .before .before .before .u .given .1) (c .before .before .before .before .before .before .before .before .before .before .before .before .before .before .before .before .before .before .before .before .pre .1) (c .before .before .before .before .before .before .before .before .before .before .before .before .before .before .before .before .before .before .before .before .pre .0 .lies))) (g .yields .onward) (g .yields .lays), c .before .before .before .before .before .before .before .before .before .before .before .before .before .before .before .before .before .before .before .before .pre .2, omega arith)
+place-requires : tie.Need-place-requires
+place-requires c κs = search needs
 
 returns : tie.Need-returns
-returns c = past-not _ _ _ (c .before .before .before .next .ensures) _ (c .before .cause .given .1)
+returns c = past-not _ _ _ (c .before .before .before .before .next .ensures) _ (arrived-told (c .before .before .enum-told .given .1) (c .before .cause .ensures) (c .place .ensures))
+
+braced-requires : tie.Need-braced-requires
+braced-requires c κs = roomy-ready (roomy-step (c .before .before .before .before .before .before .before .before .before .pre .0) (past-onward _ _ _ (c .before .before .before .before .before .next .ensures) (c .before .before .before .arrived .given .1) (c .before .before .before .before .before .before .before .before .before .pre .1) (c .before .before .before .before .before .before .before .before .before .pre .0 .lies)))
+
+enum-known-inside : tie.Need-enum-known-inside
+enum-known-inside c = search needs
+
+enum-told-2 : tie.Need-enum-told-2
+enum-told-2 c = search needs
+
+cause-requires-2 : tie.Need-cause-requires-2
+cause-requires-2 c κs = search needs
+
+place-requires-2 : tie.Need-place-requires-2
+place-requires-2 c κs = search needs
 
 same-length : tie.Need-same-length
 same-length c = search needs
@@ -48,7 +56,13 @@ same-length-2 : tie.Need-same-length-2
 same-length-2 c = search needs
 
 returns-2 : tie.Need-returns-2
-returns-2 c = past-at _ _ _ (c .before .before .before .before .before .before .before .before .before .before .before .before .before .next .ensures) (c .before .before .before .before .before .before .before .before .before .before .before .u .given .1) _ ∙ specializer-halt _ _ _ (braced-not _ _ _ _ _ _ _ (c .before .before .before .before .before .before .before .braced .ensures) (c .before .cause2 .given .1))
+returns-2 c = past-at _ _ _ (c .before .before .before .before .before .before .before .before .before .before .before .before .before .before .next .ensures) (c .before .before .before .before .before .before .before .before .before .before .before .before .arrived .given .1) _ ∙ specializer-halt _ _ _ (braced-not _ _ _ _ _ _ _ (c .before .before .before .before .before .before .before .before .braced .ensures) (expressed-told (c .before .before .enum-told2 .given .1) (c .before .cause2 .ensures) (c .place2 .ensures)))
+
+specialize-value-requires : tie.Need-specialize-value-requires
+specialize-value-requires c κs = search needs
+
+parse-external-set-requires : tie.Need-parse-external-set-requires
+parse-external-set-requires c κs = let g = (braced-read _ _ _ _ _ _ _ (c .before .before .before .before .before .before .before .before .before .before .braced .ensures) (c .before .before .before .before .inside .given .1)) in (roomy-on (roomy-step (c .before .before .before .before .before .before .before .before .before .before .before .before .before .before .before .before .before .before .before .before .pre .0) (past-onward _ _ _ (c .before .before .before .before .before .before .before .before .before .before .before .before .before .before .before .before .next .ensures) (c .before .before .before .before .before .before .before .before .before .before .before .before .before .before .arrived .given .1) (c .before .before .before .before .before .before .before .before .before .before .before .before .before .before .before .before .before .before .before .before .pre .1) (c .before .before .before .before .before .before .before .before .before .before .before .before .before .before .before .before .before .before .before .before .pre .0 .lies))) (g .yields .onward) (g .yields .lays), c .before .before .before .before .before .before .before .before .before .before .before .before .before .before .before .before .before .before .before .before .pre .2, omega arith)
 
 same-length-3 : tie.Need-same-length-3
 same-length-3 c = search needs
@@ -57,24 +71,28 @@ same-length-4 : tie.Need-same-length-4
 same-length-4 c = search needs
 
 returns-3 : tie.Need-returns-3
-returns-3 c = parses-past _ _ _ (c .before .before .before .before .before .before .before .before .before .before .before .before .before .before .before .before .before .before .before .before .before .next .ensures) (c .before .before .before .before .before .before .before .before .before .before .before .before .before .before .before .before .before .before .before .u .given .1) (c .before .before .before .before .before .before .before .before .before .before .before .before .before .before .before .before .before .before .before .before .before .before .before .before .before .pre .1) (c .before .before .before .before .before .before .before .before .before .before .before .before .before .before .before .before .before .before .before .before .before .before .before .before .before .pre .0 .lies) (parseExternalSpecializer (c .before .before .before .before .before .before .before .before .before .before .before .before .before .before .before .before .before .before .before .before .before .before .before .before .before .args .start) (specializeBy (c .before .before .before .before .before .before .before .before .before .before .before .before .before .before .before .before .before .before .before .before .before .before .before .before .before .args .extend))) (nodesOf declarationBranch) _ _ _ (c .before .before .before .before .parse-external-set .result) (specializer-parsed (c .before .before .before .before .before .before .before .before .before .before .before .before .before .before .before .before .before .before .before .before .before .before .before .before .before .args .start) (specializeBy (c .before .before .before .before .before .before .before .before .before .before .before .before .before .before .before .before .before .before .before .before .before .before .before .before .before .args .extend)) _ _ (c .before .before .before .before .before .before .before .specialize-value .ensures) (braced-read _ _ _ _ _ _ _ (c .before .before .before .before .before .before .before .before .before .before .before .before .before .before .before .braced .ensures) (c .before .before .before .before .before .before .before .before .before .v .given .1)) _ _ (c .before .before .before .before .parse-external-set .result) (c .before .before .before .before .parse-external-set .ensures))
+returns-3 c = parses-past _ _ _ (c .before .before .before .before .before .before .before .before .before .before .before .before .before .before .before .before .before .before .before .before .before .next .ensures) (c .before .before .before .before .before .before .before .before .before .before .before .before .before .before .before .before .before .before .before .arrived .given .1) (c .before .before .before .before .before .before .before .before .before .before .before .before .before .before .before .before .before .before .before .before .before .before .before .before .before .pre .1) (c .before .before .before .before .before .before .before .before .before .before .before .before .before .before .before .before .before .before .before .before .before .before .before .before .before .pre .0 .lies) (parseExternalSpecializer (c .before .before .before .before .before .before .before .before .before .before .before .before .before .before .before .before .before .before .before .before .before .before .before .before .before .args .start) (specializeBy (c .before .before .before .before .before .before .before .before .before .before .before .before .before .before .before .before .before .before .before .before .before .before .before .before .before .args .extend))) (nodesOf declarationBranch) _ _ _ (c .before .before .before .before .parse-external-set .result) (specializer-parsed (c .before .before .before .before .before .before .before .before .before .before .before .before .before .before .before .before .before .before .before .before .before .before .before .before .before .args .start) (specializeBy (c .before .before .before .before .before .before .before .before .before .before .before .before .before .before .before .before .before .before .before .before .before .before .before .before .before .args .extend)) _ _ (c .before .before .before .before .before .before .before .specialize-value .ensures) (braced-read _ _ _ _ _ _ _ (c .before .before .before .before .before .before .before .before .before .before .before .before .before .before .before .braced .ensures) (c .before .before .before .before .before .before .before .before .before .inside .given .1)) _ _ (c .before .before .before .before .parse-external-set .result) (c .before .before .before .before .parse-external-set .ensures))
 
 pub parse-external-specializer-spec : {M : Type 1} → statement M
 parse-external-specializer-spec =
     tie.close
     (tie.spec
     next-requires
-    enum-known-cause
-    enum-known-u
-    braced-requires
-    enum-known-cause-2
-    enum-known-v
-    specialize-value-requires
-    parse-external-set-requires
+    enum-known-arrived
+    enum-told
+    cause-requires
+    place-requires
     returns
+    braced-requires
+    enum-known-inside
+    enum-told-2
+    cause-requires-2
+    place-requires-2
     same-length
     same-length-2
     returns-2
+    specialize-value-requires
+    parse-external-set-requires
     same-length-3
     same-length-4
     returns-3)

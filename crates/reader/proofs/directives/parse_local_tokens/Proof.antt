@@ -6,6 +6,7 @@ use Rattle.declarations.proofs.SourceLaws.{word-yes, word-no, word-not, word-on
 use Rattle.reader.proofs.RoomyLaws.{roomy-step}
 use Rattle.reader.proofs.Gathered.{gathered, gathered-not}
 use Rattle.reader.proofs.DirectiveLaws.{over-asks, tokens-plain, local-halt, local-no, local-refused, local-given}
+use Rattle.parser.proofs.Told.{listed-told}
 use borrow.Author.Needs.{needs}
 use Rattle.reader.proofs.directives.parse_local_tokens.Statement.{statement}
 use Rattle.reader.proofs.directives.parse_local_tokens.Tie as tie
@@ -31,20 +32,17 @@ enum-known-u c = search needs
 parse-block-requires : tie.Need-parse-block-requires
 parse-block-requires c κs = roomy-step (c .before .before .before .before .before .before .before .before .before .before .pre .0) (word-onward "tokens" _ _ _ (c .before .before .before .before .before .eat-identifier-value .ensures) tokens-plain (c .before .before .before .before .before .before .before .before .before .before .pre .0 .lies) (c .before .before .before .u .given .1))
 
-enum-known-cause-2 : tie.Need-enum-known-cause-2
-enum-known-cause-2 c = search needs
+enum-known-listed : tie.Need-enum-known-listed
+enum-known-listed c = search needs
 
-enum-known-v : tie.Need-enum-known-v
-enum-known-v c = search needs
+enum-told-2 : tie.Need-enum-told-2
+enum-told-2 c = search needs
 
-put-plain-requires : tie.Need-put-plain-requires
-put-plain-requires c κs = over-asks (c .before .before .before .before .before .before .before .before .before .before .before .before .before .before .before .before .before .before .before .pre .0) (word-onward "tokens" _ _ _ (c .before .before .before .before .before .before .before .before .before .before .before .before .before .before .eat-identifier-value .ensures) tokens-plain (c .before .before .before .before .before .before .before .before .before .before .before .before .before .before .before .before .before .before .before .pre .0 .lies) (c .before .before .before .before .before .before .before .before .before .before .before .before .u .given .1)) (gathered _ _ _ _ _ _ _ _ (c .before .before .before .before .before .before .before .before .parse-block .result) (c .before .before .before .before .before .before .before .before .parse-block .ensures) (c .before .before .v .given .1)) (c .before .before .before .before .before .before .before .before .before .before .before .before .before .before .before .before .before .before .before .pre .1) (omega arith)
+cause-requires : tie.Need-cause-requires
+cause-requires c κs = search needs
 
-returns : tie.Need-returns
-returns c = local-halt _ _ _ (word-not "tokens" _ _ _ (c .before .before .before .eat-identifier-value .ensures) tokens-plain (c .before .cause .given .1))
-
-returns-2 : tie.Need-returns-2
-returns-2 c = rw (c .start .ensures) (local-no _ _ _ (word-no "tokens" _ _ _ (c .before .before .before .eat-identifier-value .ensures) tokens-plain (c .before .enum-told .given .1)))
+place-requires : tie.Need-place-requires
+place-requires c κs = search needs
 
 same-length : tie.Need-same-length
 same-length c = search needs
@@ -52,8 +50,17 @@ same-length c = search needs
 same-length-2 : tie.Need-same-length-2
 same-length-2 c = search needs
 
+returns : tie.Need-returns
+returns c = local-refused _ _ _ (word-yes "tokens" _ _ _ (c .before .before .before .before .before .before .before .before .before .before .before .before .before .before .eat-identifier-value .ensures) tokens-plain (c .before .before .before .before .before .before .before .before .before .before .before .before .u .given .1)) (gathered-not _ _ _ _ _ _ _ _ (c .before .before .before .before .before .before .before .before .parse-block .result) (c .before .before .before .before .before .before .before .before .parse-block .ensures) (listed-told (c .before .before .enum-told2 .given .1) (c .before .cause2 .ensures) (c .place .ensures)))
+
+put-plain-requires : tie.Need-put-plain-requires
+put-plain-requires c κs = over-asks (c .before .before .before .before .before .before .before .before .before .before .before .before .before .before .before .before .before .before .before .pre .0) (word-onward "tokens" _ _ _ (c .before .before .before .before .before .before .before .before .before .before .before .before .before .before .eat-identifier-value .ensures) tokens-plain (c .before .before .before .before .before .before .before .before .before .before .before .before .before .before .before .before .before .before .before .pre .0 .lies) (c .before .before .before .before .before .before .before .before .before .before .before .before .u .given .1)) (gathered _ _ _ _ _ _ _ _ (c .before .before .before .before .before .before .before .before .parse-block .result) (c .before .before .before .before .before .before .before .before .parse-block .ensures) (c .before .before .listed .given .1)) (c .before .before .before .before .before .before .before .before .before .before .before .before .before .before .before .before .before .before .before .pre .1) (omega arith)
+
+returns-2 : tie.Need-returns-2
+returns-2 c = local-halt _ _ _ (word-not "tokens" _ _ _ (c .before .before .before .eat-identifier-value .ensures) tokens-plain (c .before .cause .given .1))
+
 returns-3 : tie.Need-returns-3
-returns-3 c = local-refused _ _ _ (word-yes "tokens" _ _ _ (c .before .before .before .before .before .before .before .before .before .before .before .before .before .eat-identifier-value .ensures) tokens-plain (c .before .before .before .before .before .before .before .before .before .before .before .u .given .1)) (gathered-not _ _ _ _ _ _ _ _ (c .before .before .before .before .before .before .before .parse-block .result) (c .before .before .before .before .before .before .before .parse-block .ensures) (c .before .cause2 .given .1))
+returns-3 c = rw (c .start .ensures) (local-no _ _ _ (word-no "tokens" _ _ _ (c .before .before .before .eat-identifier-value .ensures) tokens-plain (c .before .enum-told .given .1)))
 
 same-length-3 : tie.Need-same-length-3
 same-length-3 c = search needs
@@ -62,7 +69,7 @@ same-length-4 : tie.Need-same-length-4
 same-length-4 c = search needs
 
 returns-4 : tie.Need-returns-4
-returns-4 c = local-given _ _ _ (word-yes "tokens" _ _ _ (c .before .before .before .before .before .before .before .before .before .before .before .before .before .before .before .before .before .eat-identifier-value .ensures) tokens-plain (c .before .before .before .before .before .before .before .before .before .before .before .before .before .before .before .u .given .1)) (word-onward "tokens" _ _ _ (c .before .before .before .before .before .before .before .before .before .before .before .before .before .before .before .before .before .eat-identifier-value .ensures) tokens-plain (c .before .before .before .before .before .before .before .before .before .before .before .before .before .before .before .before .before .before .before .before .before .before .pre .0 .lies) (c .before .before .before .before .before .before .before .before .before .before .before .before .before .before .before .u .given .1)) (gathered _ _ _ _ _ _ _ _ (c .before .before .before .before .before .before .before .before .before .before .before .parse-block .result) (c .before .before .before .before .before .before .before .before .before .before .before .parse-block .ensures) (c .before .before .before .before .before .v .given .1)) (c .before .before .put-plain .ensures)
+returns-4 c = local-given _ _ _ (word-yes "tokens" _ _ _ (c .before .before .before .before .before .before .before .before .before .before .before .before .before .before .before .before .before .eat-identifier-value .ensures) tokens-plain (c .before .before .before .before .before .before .before .before .before .before .before .before .before .before .before .u .given .1)) (word-onward "tokens" _ _ _ (c .before .before .before .before .before .before .before .before .before .before .before .before .before .before .before .before .before .eat-identifier-value .ensures) tokens-plain (c .before .before .before .before .before .before .before .before .before .before .before .before .before .before .before .before .before .before .before .before .before .before .pre .0 .lies) (c .before .before .before .before .before .before .before .before .before .before .before .before .before .before .before .u .given .1)) (gathered _ _ _ _ _ _ _ _ (c .before .before .before .before .before .before .before .before .before .before .before .parse-block .result) (c .before .before .before .before .before .before .before .before .before .before .before .parse-block .ensures) (c .before .before .before .before .before .listed .given .1)) (c .before .before .put-plain .ensures)
 
 pub parse-local-tokens-spec : {M : Type 1} → statement M
 parse-local-tokens-spec =
@@ -75,13 +82,15 @@ parse-local-tokens-spec =
     start-requires
     enum-known-u
     parse-block-requires
-    enum-known-cause-2
-    enum-known-v
-    put-plain-requires
-    returns
-    returns-2
+    enum-known-listed
+    enum-told-2
+    cause-requires
+    place-requires
     same-length
     same-length-2
+    returns
+    put-plain-requires
+    returns-2
     returns-3
     same-length-3
     same-length-4

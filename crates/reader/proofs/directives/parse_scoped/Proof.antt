@@ -4,6 +4,7 @@ use native.Mathlib.Omega.{arith}
 use Rattle.parser.proofs.Onward.{onward-here}
 use Rattle.reader.proofs.Gathered.{gathered, gathered-not}
 use Rattle.reader.proofs.DirectiveLaws.{gathers-small, over-asks, scoping}
+use Rattle.parser.proofs.Told.{listed-told}
 use borrow.Author.Needs.{needs}
 use Rattle.reader.proofs.directives.parse_scoped.Statement.{statement}
 use Rattle.reader.proofs.directives.parse_scoped.Tie as tie
@@ -14,17 +15,17 @@ holds-top-requires c κs = search needs
 parse-block-requires : tie.Need-parse-block-requires
 parse-block-requires c κs = search needs
 
-enum-known-cause : tie.Need-enum-known-cause
-enum-known-cause c = search needs
+enum-known-listed : tie.Need-enum-known-listed
+enum-known-listed c = search needs
 
-enum-known-v : tie.Need-enum-known-v
-enum-known-v c = search needs
+enum-told : tie.Need-enum-told
+enum-told c = search needs
 
-add-put-plain : tie.Need-add-put-plain
-add-put-plain c = let g = gathers-small (gathered _ _ _ _ _ _ _ _ (c .before .before .before .before .before .before .before .before .parse-block .result) (c .before .before .before .before .before .before .before .before .parse-block .ensures) (c .before .before .v .given .1)) (c .before .before .before .before .before .before .before .before .before .before .before .before .before .before .before .before .before .before .before .before .before .pre .0 .small) in omega arith
+cause-requires : tie.Need-cause-requires
+cause-requires c κs = search needs
 
-put-plain-requires : tie.Need-put-plain-requires
-put-plain-requires c κs = over-asks (c .before .before .before .before .before .before .before .before .before .before .before .before .before .before .before .before .before .before .before .before .before .pre .0) (onward-here _ _ (c .before .before .before .before .before .before .before .before .before .before .before .before .before .before .before .before .before .before .before .before .before .pre .0 .lies)) (gathered _ _ _ _ _ _ _ _ (c .before .before .before .before .before .before .before .before .parse-block .result) (c .before .before .before .before .before .before .before .before .parse-block .ensures) (c .before .before .v .given .1)) (c .before .before .before .before .before .before .before .before .before .before .before .before .before .before .before .before .before .before .before .before .before .pre .1) (omega arith)
+place-requires : tie.Need-place-requires
+place-requires c κs = search needs
 
 same-length : tie.Need-same-length
 same-length c = search needs
@@ -33,7 +34,13 @@ same-length-2 : tie.Need-same-length-2
 same-length-2 c = search needs
 
 returns : tie.Need-returns
-returns c = gathered-not _ _ _ _ _ _ _ _ (c .before .before .before .before .before .before .before .parse-block .result) (c .before .before .before .before .before .before .before .parse-block .ensures) (c .before .cause .given .1)
+returns c = gathered-not _ _ _ _ _ _ _ _ (c .before .before .before .before .before .before .before .before .parse-block .result) (c .before .before .before .before .before .before .before .before .parse-block .ensures) (listed-told (c .before .before .enum-told .given .1) (c .before .cause .ensures) (c .place .ensures))
+
+add-put-plain : tie.Need-add-put-plain
+add-put-plain c = let g = gathers-small (gathered _ _ _ _ _ _ _ _ (c .before .before .before .before .before .before .before .before .parse-block .result) (c .before .before .before .before .before .before .before .before .parse-block .ensures) (c .before .before .listed .given .1)) (c .before .before .before .before .before .before .before .before .before .before .before .before .before .before .before .before .before .before .before .before .before .pre .0 .small) in omega arith
+
+put-plain-requires : tie.Need-put-plain-requires
+put-plain-requires c κs = over-asks (c .before .before .before .before .before .before .before .before .before .before .before .before .before .before .before .before .before .before .before .before .before .pre .0) (onward-here _ _ (c .before .before .before .before .before .before .before .before .before .before .before .before .before .before .before .before .before .before .before .before .before .pre .0 .lies)) (gathered _ _ _ _ _ _ _ _ (c .before .before .before .before .before .before .before .before .parse-block .result) (c .before .before .before .before .before .before .before .before .parse-block .ensures) (c .before .before .listed .given .1)) (c .before .before .before .before .before .before .before .before .before .before .before .before .before .before .before .before .before .before .before .before .before .pre .1) (omega arith)
 
 same-length-3 : tie.Need-same-length-3
 same-length-3 c = search needs
@@ -42,7 +49,7 @@ same-length-4 : tie.Need-same-length-4
 same-length-4 c = search needs
 
 returns-2 : tie.Need-returns-2
-returns-2 c = scoping (c .before .before .before .before .before .before .before .before .before .before .before .before .before .before .before .before .before .before .holds-top .ensures) (gathered _ _ _ _ _ _ _ _ (c .before .before .before .before .before .before .before .before .before .before .before .parse-block .result) (c .before .before .before .before .before .before .before .before .before .before .before .parse-block .ensures) (c .before .before .before .before .before .v .given .1)) (c .before .before .put-plain .ensures)
+returns-2 c = scoping (c .before .before .before .before .before .before .before .before .before .before .before .before .before .before .before .before .before .before .holds-top .ensures) (gathered _ _ _ _ _ _ _ _ (c .before .before .before .before .before .before .before .before .before .before .before .parse-block .result) (c .before .before .before .before .before .before .before .before .before .before .before .parse-block .ensures) (c .before .before .before .before .before .listed .given .1)) (c .before .before .put-plain .ensures)
 
 pub parse-scoped-spec : {M : Type 1} → statement M
 parse-scoped-spec =
@@ -50,13 +57,15 @@ parse-scoped-spec =
     (tie.spec
     holds-top-requires
     parse-block-requires
-    enum-known-cause
-    enum-known-v
-    add-put-plain
-    put-plain-requires
+    enum-known-listed
+    enum-told
+    cause-requires
+    place-requires
     same-length
     same-length-2
     returns
+    add-put-plain
+    put-plain-requires
     same-length-3
     same-length-4
     returns-2)

@@ -5,6 +5,8 @@ use Rattle.reader.proofs.RoomyLaws.{roomy-ready, roomy-step}
 use Rattle.reader.proofs.TopLaws.{start-within, past-onward}
 use Rattle.reader.proofs.Gathered.{gathered, gathered-not}
 use Rattle.reader.proofs.DirectiveLaws.{over-asks, tokens-halt, tokens-refused, tokens-given}
+use Rattle.tokens.proofs.Told.{arrived-told}
+use Rattle.parser.proofs.Told.{listed-told}
 use borrow.Author.Needs.{needs}
 use Rattle.reader.proofs.directives.parse_tokens.Statement.{statement}
 use Rattle.reader.proofs.directives.parse_tokens.Tie as tie
@@ -12,29 +14,35 @@ use Rattle.reader.proofs.directives.parse_tokens.Tie as tie
 next-requires : tie.Need-next-requires
 next-requires c κs = search needs
 
-enum-known-cause : tie.Need-enum-known-cause
-enum-known-cause c = search needs
+enum-known-arrived : tie.Need-enum-known-arrived
+enum-known-arrived c = search needs
 
-enum-known-u : tie.Need-enum-known-u
-enum-known-u c = search needs
+enum-told : tie.Need-enum-told
+enum-told c = search needs
 
-parse-block-requires : tie.Need-parse-block-requires
-parse-block-requires c κs = roomy-step (c .before .before .before .before .before .before .before .before .before .pre .0) (past-onward _ _ _ (c .before .before .before .before .before .next .ensures) (c .before .before .before .u .given .1) (c .before .before .before .before .before .before .before .before .before .pre .1) (c .before .before .before .before .before .before .before .before .before .pre .0 .lies))
+cause-requires : tie.Need-cause-requires
+cause-requires c κs = search needs
 
-enum-known-cause-2 : tie.Need-enum-known-cause-2
-enum-known-cause-2 c = search needs
-
-enum-known-v : tie.Need-enum-known-v
-enum-known-v c = search needs
-
-start-requires : tie.Need-start-requires
-start-requires c κs = search needs
-
-put-plain-requires : tie.Need-put-plain-requires
-put-plain-requires c κs = over-asks (c .before .before .before .before .before .before .before .before .before .before .before .before .before .before .before .before .before .before .before .pre .0) (past-onward _ _ _ (c .before .before .before .before .before .before .before .before .before .before .before .before .before .before .before .next .ensures) (c .before .before .before .before .before .before .before .before .before .before .before .before .before .u .given .1) (c .before .before .before .before .before .before .before .before .before .before .before .before .before .before .before .before .before .before .before .pre .1) (c .before .before .before .before .before .before .before .before .before .before .before .before .before .before .before .before .before .before .before .pre .0 .lies)) (gathered _ _ _ _ _ _ _ _ (c .before .before .before .before .before .before .before .before .before .parse-block .result) (c .before .before .before .before .before .before .before .before .before .parse-block .ensures) (c .before .before .before .v .given .1)) (start-within (roomy-ready (c .before .before .before .before .before .before .before .before .before .before .before .before .before .before .before .before .before .before .before .pre .0)) (c .start .ensures)) (omega arith)
+place-requires : tie.Need-place-requires
+place-requires c κs = search needs
 
 returns : tie.Need-returns
-returns c = tokens-halt _ _ _ (c .before .before .before .next .ensures) (c .before .cause .given .1)
+returns c = tokens-halt _ _ _ (c .before .before .before .before .next .ensures) (arrived-told (c .before .before .enum-told .given .1) (c .before .cause .ensures) (c .place .ensures))
+
+parse-block-requires : tie.Need-parse-block-requires
+parse-block-requires c κs = roomy-step (c .before .before .before .before .before .before .before .before .before .pre .0) (past-onward _ _ _ (c .before .before .before .before .before .next .ensures) (c .before .before .before .arrived .given .1) (c .before .before .before .before .before .before .before .before .before .pre .1) (c .before .before .before .before .before .before .before .before .before .pre .0 .lies))
+
+enum-known-listed : tie.Need-enum-known-listed
+enum-known-listed c = search needs
+
+enum-told-2 : tie.Need-enum-told-2
+enum-told-2 c = search needs
+
+cause-requires-2 : tie.Need-cause-requires-2
+cause-requires-2 c κs = search needs
+
+place-requires-2 : tie.Need-place-requires-2
+place-requires-2 c κs = search needs
 
 same-length : tie.Need-same-length
 same-length c = search needs
@@ -43,7 +51,13 @@ same-length-2 : tie.Need-same-length-2
 same-length-2 c = search needs
 
 returns-2 : tie.Need-returns-2
-returns-2 c = tokens-refused _ _ _ (c .before .before .before .before .before .before .before .before .before .before .before .before .before .next .ensures) (c .before .before .before .before .before .before .before .before .before .before .before .u .given .1) (gathered-not _ _ _ _ _ _ _ _ (c .before .before .before .before .before .before .before .parse-block .result) (c .before .before .before .before .before .before .before .parse-block .ensures) (c .before .cause2 .given .1))
+returns-2 c = tokens-refused _ _ _ (c .before .before .before .before .before .before .before .before .before .before .before .before .before .before .next .ensures) (c .before .before .before .before .before .before .before .before .before .before .before .before .arrived .given .1) (gathered-not _ _ _ _ _ _ _ _ (c .before .before .before .before .before .before .before .before .parse-block .result) (c .before .before .before .before .before .before .before .before .parse-block .ensures) (listed-told (c .before .before .enum-told2 .given .1) (c .before .cause2 .ensures) (c .place2 .ensures)))
+
+start-requires : tie.Need-start-requires
+start-requires c κs = search needs
+
+put-plain-requires : tie.Need-put-plain-requires
+put-plain-requires c κs = over-asks (c .before .before .before .before .before .before .before .before .before .before .before .before .before .before .before .before .before .before .before .pre .0) (past-onward _ _ _ (c .before .before .before .before .before .before .before .before .before .before .before .before .before .before .before .next .ensures) (c .before .before .before .before .before .before .before .before .before .before .before .before .before .arrived .given .1) (c .before .before .before .before .before .before .before .before .before .before .before .before .before .before .before .before .before .before .before .pre .1) (c .before .before .before .before .before .before .before .before .before .before .before .before .before .before .before .before .before .before .before .pre .0 .lies)) (gathered _ _ _ _ _ _ _ _ (c .before .before .before .before .before .before .before .before .before .parse-block .result) (c .before .before .before .before .before .before .before .before .before .parse-block .ensures) (c .before .before .before .listed .given .1)) (start-within (roomy-ready (c .before .before .before .before .before .before .before .before .before .before .before .before .before .before .before .before .before .before .before .pre .0)) (c .start .ensures)) (omega arith)
 
 same-length-3 : tie.Need-same-length-3
 same-length-3 c = search needs
@@ -52,24 +66,28 @@ same-length-4 : tie.Need-same-length-4
 same-length-4 c = search needs
 
 returns-3 : tie.Need-returns-3
-returns-3 c = tokens-given _ _ _ (c .before .before .before .before .before .before .before .before .before .before .before .before .before .before .before .before .before .before .next .ensures) (c .before .before .before .before .before .before .before .before .before .before .before .before .before .before .before .before .u .given .1) (c .before .before .before .before .before .before .before .before .before .before .before .before .before .before .before .before .before .before .before .before .before .before .pre .1) (c .before .before .before .before .before .before .before .before .before .before .before .before .before .before .before .before .before .before .before .before .before .before .pre .0 .lies) (gathered _ _ _ _ _ _ _ _ (c .before .before .before .before .before .before .before .before .before .before .before .before .parse-block .result) (c .before .before .before .before .before .before .before .before .before .before .before .before .parse-block .ensures) (c .before .before .before .before .before .before .v .given .1)) (c .before .before .before .start .ensures) (c .before .before .put-plain .ensures)
+returns-3 c = tokens-given _ _ _ (c .before .before .before .before .before .before .before .before .before .before .before .before .before .before .before .before .before .before .next .ensures) (c .before .before .before .before .before .before .before .before .before .before .before .before .before .before .before .before .arrived .given .1) (c .before .before .before .before .before .before .before .before .before .before .before .before .before .before .before .before .before .before .before .before .before .before .pre .1) (c .before .before .before .before .before .before .before .before .before .before .before .before .before .before .before .before .before .before .before .before .before .before .pre .0 .lies) (gathered _ _ _ _ _ _ _ _ (c .before .before .before .before .before .before .before .before .before .before .before .before .parse-block .result) (c .before .before .before .before .before .before .before .before .before .before .before .before .parse-block .ensures) (c .before .before .before .before .before .before .listed .given .1)) (c .before .before .before .start .ensures) (c .before .before .put-plain .ensures)
 
 pub parse-tokens-spec : {M : Type 1} → statement M
 parse-tokens-spec =
     tie.close
     (tie.spec
     next-requires
-    enum-known-cause
-    enum-known-u
-    parse-block-requires
-    enum-known-cause-2
-    enum-known-v
-    start-requires
-    put-plain-requires
+    enum-known-arrived
+    enum-told
+    cause-requires
+    place-requires
     returns
+    parse-block-requires
+    enum-known-listed
+    enum-told-2
+    cause-requires-2
+    place-requires-2
     same-length
     same-length-2
     returns-2
+    start-requires
+    put-plain-requires
     same-length-3
     same-length-4
     returns-3)

@@ -15,6 +15,9 @@ use Rattle.reader.proofs.top.parse_declaration.Tie as tie
 at-requires : tie.Need-at-requires
 at-requires c κs = search needs
 
+enum-known-a : tie.Need-enum-known-a
+enum-known-a c = search needs
+
 enum-told : tie.Need-enum-told
 enum-told c = search needs
 
@@ -24,12 +27,6 @@ parse-rule-requires c κs = roomy-ready (c .before .before .before .before .befo
 of-kind-requires : tie.Need-of-kind-requires
 of-kind-requires c κs = search needs
 
-enum-known-a : tie.Need-enum-known-a
-enum-known-a c = search needs
-
-parse-directive-requires : tie.Need-parse-directive-requires
-parse-directive-requires c κs = (c .before .before .before .before .before .before .before .before .before .pre, sym (c .before .before .before .before .before .at .ensures) ∙ c .before .before .before .a .given .1)
-
 same-length : tie.Need-same-length
 same-length c = search needs
 
@@ -38,6 +35,9 @@ same-length-2 c = search needs
 
 returns : tie.Need-returns
 returns c = declares-by (λ r. declaration (Declaration.rule r)) _ _ (nodesOf (ruleBranch 3)) 3 false _ _ _ _ _ _ (λ before q. declaration-rule _ _ before (sym (c .before .before .before .before .before .before .before .before .before .before .at .ensures) ∙ c .before .before .before .before .before .before .before .before .enum-told .given .1)) (λ x us q. rule-plain x) (c .before .before .before .before .before .parse-rule .result) (c .before .before .before .before .before .parse-rule .ensures) (c .of-kind .result) (c .of-kind .ensures)
+
+parse-directive-requires : tie.Need-parse-directive-requires
+parse-directive-requires c κs = (c .before .before .before .before .before .before .before .before .before .pre, sym (c .before .before .before .before .before .at .ensures) ∙ c .before .before .before .a .given .1)
 
 same-length-3 : tie.Need-same-length-3
 same-length-3 c = search needs
@@ -53,14 +53,14 @@ parse-declaration-spec =
     tie.close
     (tie.spec
     at-requires
+    enum-known-a
     enum-told
     parse-rule-requires
     of-kind-requires
-    enum-known-a
-    parse-directive-requires
     same-length
     same-length-2
     returns
+    parse-directive-requires
     same-length-3
     same-length-4
     returns-2)

@@ -3,6 +3,7 @@
 use Rattle.notation.specs.Declarations.{parseExternalDeclaration}
 use Rattle.reader.proofs.RoomyLaws.{roomy-ready, roomy-step}
 use Rattle.reader.proofs.TopLaws.{start-within, past-not, past-onward, external-past}
+use Rattle.tokens.proofs.Told.{arrived-told}
 use borrow.Author.Needs.{needs}
 use Rattle.reader.proofs.top.parse_external.Statement.{statement}
 use Rattle.reader.proofs.top.parse_external.Tie as tie
@@ -10,20 +11,26 @@ use Rattle.reader.proofs.top.parse_external.Tie as tie
 next-requires : tie.Need-next-requires
 next-requires c κs = search needs
 
-enum-known-cause : tie.Need-enum-known-cause
-enum-known-cause c = search needs
+enum-known-arrived : tie.Need-enum-known-arrived
+enum-known-arrived c = search needs
 
-enum-known-u : tie.Need-enum-known-u
-enum-known-u c = search needs
+enum-told : tie.Need-enum-told
+enum-told c = search needs
+
+cause-requires : tie.Need-cause-requires
+cause-requires c κs = search needs
+
+place-requires : tie.Need-place-requires
+place-requires c κs = search needs
+
+returns : tie.Need-returns
+returns c = λ before q. past-not _ _ _ (c .before .before .before .before .next .ensures) (parseExternalDeclaration _) (arrived-told (c .before .before .enum-told .given .1) (c .before .cause .ensures) (c .place .ensures))
 
 start-requires : tie.Need-start-requires
 start-requires c κs = search needs
 
 parse-external-declaration-requires : tie.Need-parse-external-declaration-requires
-parse-external-declaration-requires c κs = (roomy-step (c .before .before .before .before .before .before .before .before .before .before .pre .0) (past-onward _ _ _ (c .before .before .before .before .before .before .next .ensures) (c .before .before .before .before .u .given .1) (c .before .before .before .before .before .before .before .before .before .before .pre .1) (c .before .before .before .before .before .before .before .before .before .before .pre .0 .lies)), start-within (roomy-ready (c .before .before .before .before .before .before .before .before .before .before .pre .0)) (c .before .before .start .ensures))
-
-returns : tie.Need-returns
-returns c = λ before q. past-not _ _ _ (c .before .before .before .next .ensures) (parseExternalDeclaration _) (c .before .cause .given .1)
+parse-external-declaration-requires c κs = (roomy-step (c .before .before .before .before .before .before .before .before .before .before .pre .0) (past-onward _ _ _ (c .before .before .before .before .before .before .next .ensures) (c .before .before .before .before .arrived .given .1) (c .before .before .before .before .before .before .before .before .before .before .pre .1) (c .before .before .before .before .before .before .before .before .before .before .pre .0 .lies)), start-within (roomy-ready (c .before .before .before .before .before .before .before .before .before .before .pre .0)) (c .before .before .start .ensures))
 
 same-length : tie.Need-same-length
 same-length c = search needs
@@ -32,18 +39,20 @@ same-length-2 : tie.Need-same-length-2
 same-length-2 c = search needs
 
 returns-2 : tie.Need-returns-2
-returns-2 c = rw (← c .before .before .before .before .before .before .before .start .ensures) (external-past _ _ _ _ (c .before .before .before .before .before .before .before .before .before .before .before .next .ensures) (c .before .before .before .before .before .before .before .before .before .u .given .1) (c .before .before .before .before .before .before .before .before .before .before .before .before .before .before .before .pre .1) (c .before .before .before .before .before .before .before .before .before .before .before .before .before .before .before .pre .0 .lies) (c .before .before .before .before .before .before .before .start .result) _ _ _ (c .before .before .before .before .parse-external-declaration .result) (c .before .before .before .before .parse-external-declaration .ensures))
+returns-2 c = rw (← c .before .before .before .before .before .before .before .start .ensures) (external-past _ _ _ _ (c .before .before .before .before .before .before .before .before .before .before .before .next .ensures) (c .before .before .before .before .before .before .before .before .before .arrived .given .1) (c .before .before .before .before .before .before .before .before .before .before .before .before .before .before .before .pre .1) (c .before .before .before .before .before .before .before .before .before .before .before .before .before .before .before .pre .0 .lies) (c .before .before .before .before .before .before .before .start .result) _ _ _ (c .before .before .before .before .parse-external-declaration .result) (c .before .before .before .before .parse-external-declaration .ensures))
 
 pub parse-external-spec : {M : Type 1} → statement M
 parse-external-spec =
     tie.close
     (tie.spec
     next-requires
-    enum-known-cause
-    enum-known-u
+    enum-known-arrived
+    enum-told
+    cause-requires
+    place-requires
+    returns
     start-requires
     parse-external-declaration-requires
-    returns
     same-length
     same-length-2
     returns-2)

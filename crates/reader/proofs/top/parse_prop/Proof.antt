@@ -7,6 +7,7 @@ use Rattle.notation.specs.Declarations.{parseExternalProp}
 use Rattle.parser.specs.Storing.{nodesOf}
 use Rattle.reader.specs.Directives.{propAt}
 use Rattle.reader.proofs.TopLaws.{past-not, past-then, past-ready, parses-past, plain-prop, declares-by}
+use Rattle.tokens.proofs.Told.{arrived-told}
 use borrow.Author.Needs.{needs}
 use Rattle.reader.proofs.top.parse_prop.Statement.{statement}
 use Rattle.reader.proofs.top.parse_prop.Tie as tie
@@ -14,20 +15,26 @@ use Rattle.reader.proofs.top.parse_prop.Tie as tie
 next-requires : tie.Need-next-requires
 next-requires c κs = search needs
 
-enum-known-cause : tie.Need-enum-known-cause
-enum-known-cause c = search needs
+enum-known-arrived : tie.Need-enum-known-arrived
+enum-known-arrived c = search needs
 
-enum-known-u : tie.Need-enum-known-u
-enum-known-u c = search needs
+enum-told : tie.Need-enum-told
+enum-told c = search needs
+
+cause-requires : tie.Need-cause-requires
+cause-requires c κs = search needs
+
+place-requires : tie.Need-place-requires
+place-requires c κs = search needs
+
+returns : tie.Need-returns
+returns c = λ before q. past-not _ _ _ (c .before .before .before .before .next .ensures) (propAt (c .before .before .before .before .before .before .before .before .args .start)) (arrived-told (c .before .before .enum-told .given .1) (c .before .cause .ensures) (c .place .ensures))
 
 parse-external-prop-requires : tie.Need-parse-external-prop-requires
-parse-external-prop-requires c κs = (past-ready _ _ _ (c .before .before .before .before .before .next .ensures) (c .before .before .before .u .given .1) (c .before .before .before .before .before .before .before .before .before .pre .1) (c .before .before .before .before .before .before .before .before .before .pre .0 .lies) (c .before .before .before .before .before .before .before .before .before .pre .0), c .before .before .before .before .before .before .before .before .before .pre .2)
+parse-external-prop-requires c κs = (past-ready _ _ _ (c .before .before .before .before .before .next .ensures) (c .before .before .before .arrived .given .1) (c .before .before .before .before .before .before .before .before .before .pre .1) (c .before .before .before .before .before .before .before .before .before .pre .0 .lies) (c .before .before .before .before .before .before .before .before .before .pre .0), c .before .before .before .before .before .before .before .before .before .pre .2)
 
 of-kind-requires : tie.Need-of-kind-requires
 of-kind-requires c κs = search needs
-
-returns : tie.Need-returns
-returns c = λ before q. past-not _ _ _ (c .before .before .before .next .ensures) (propAt (c .before .before .before .before .before .before .before .args .start)) (c .before .cause .given .1)
 
 same-length : tie.Need-same-length
 same-length c = search needs
@@ -36,18 +43,20 @@ same-length-2 : tie.Need-same-length-2
 same-length-2 c = search needs
 
 returns-2 : tie.Need-returns-2
-returns-2 c = declares-by externalProp _ _ (nodesOf externalPropBranch) 25 false _ _ _ _ _ _ (λ before q. past-then (parseExternalProp (c .before .before .before .before .before .before .before .before .before .before .before .before .before .before .before .args .start)) _ _) (λ x us q. plain-prop x) (c .before .before .before .before .before .parse-external-prop .result) (parses-past _ _ _ (c .before .before .before .before .before .before .before .before .before .before .before .next .ensures) (c .before .before .before .before .before .before .before .before .before .u .given .1) (c .before .before .before .before .before .before .before .before .before .before .before .before .before .before .before .pre .1) (c .before .before .before .before .before .before .before .before .before .before .before .before .before .before .before .pre .0 .lies) (parseExternalProp (c .before .before .before .before .before .before .before .before .before .before .before .before .before .before .before .args .start)) (nodesOf externalPropBranch) _ _ _ (c .before .before .before .before .before .parse-external-prop .result) (c .before .before .before .before .before .parse-external-prop .ensures)) (c .of-kind .result) (c .of-kind .ensures)
+returns-2 c = declares-by externalProp _ _ (nodesOf externalPropBranch) 25 false _ _ _ _ _ _ (λ before q. past-then (parseExternalProp (c .before .before .before .before .before .before .before .before .before .before .before .before .before .before .before .args .start)) _ _) (λ x us q. plain-prop x) (c .before .before .before .before .before .parse-external-prop .result) (parses-past _ _ _ (c .before .before .before .before .before .before .before .before .before .before .before .next .ensures) (c .before .before .before .before .before .before .before .before .before .arrived .given .1) (c .before .before .before .before .before .before .before .before .before .before .before .before .before .before .before .pre .1) (c .before .before .before .before .before .before .before .before .before .before .before .before .before .before .before .pre .0 .lies) (parseExternalProp (c .before .before .before .before .before .before .before .before .before .before .before .before .before .before .before .args .start)) (nodesOf externalPropBranch) _ _ _ (c .before .before .before .before .before .parse-external-prop .result) (c .before .before .before .before .before .parse-external-prop .ensures)) (c .of-kind .result) (c .of-kind .ensures)
 
 pub parse-prop-spec : {M : Type 1} → statement M
 parse-prop-spec =
     tie.close
     (tie.spec
     next-requires
-    enum-known-cause
-    enum-known-u
+    enum-known-arrived
+    enum-told
+    cause-requires
+    place-requires
+    returns
     parse-external-prop-requires
     of-kind-requires
-    returns
     same-length
     same-length-2
     returns-2)

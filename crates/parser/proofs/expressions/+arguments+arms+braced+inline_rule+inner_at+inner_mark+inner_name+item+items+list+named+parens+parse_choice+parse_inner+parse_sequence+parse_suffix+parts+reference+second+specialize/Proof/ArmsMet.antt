@@ -11,12 +11,15 @@ use Rattle.parser.proofs.Onward.{onward-then, eat-onward}
 use Rattle.parser.proofs.Took.{eat-yes, eat-no, eat-not, expressed, expressed-not}
 use Rattle.parser.proofs.SequenceRules.{arm-refused, arm-none, arm-sequence}
 use Rattle.parser.proofs.Itemizing.{Arming, arming, arming-more, arming-over, arming-refused, arming-small, arm-ready}
+use Rattle.parser.proofs.Told.{expressed-told}
 use Rattle.parser.proofs.expressions.+arguments+arms+braced+inline_rule+inner_at+inner_mark+inner_name+item+items+list+named+parens+parse_choice+parse_inner+parse_sequence+parse_suffix+parts+reference+second+specialize.Proof.Falls.{falls-past, arms-at, parse-sequence-below}
 use Rattle.parser.proofs.expressions.arms.Reads as arms
 use Rattle.parser.proofs.expressions.+arguments+arms+braced+inline_rule+inner_at+inner_mark+inner_name+item+items+list+named+parens+parse_choice+parse_inner+parse_sequence+parse_suffix+parts+reference+second+specialize.Lts-arms as lts
 use Rattle.parser.proofs.expressions.parse_sequence.Reads as parse-sequence
 use Rattle.tokens.proofs.eat_punctuation.Reads as eat-punctuation-reads
 use Rattle.parser.proofs.parts.first_empty.Reads as first-empty-reads
+use Rattle.parser.proofs.parts.Expressed.cause.Reads as expressed-cause-reads
+use Rattle.parser.proofs.parts.Expressed.place.Reads as expressed-place-reads
 
 abbrev Inv-loop : lts.InvT-loop
 Inv-loop source left records₀ n texts₀ x t₀ m₀ y₀ count₀ empty₀ records texts t m y count empty = Arming (choiceAt left) source t₀ (lent n records₀ x texts₀) t (lent m records y texts) count empty
@@ -26,91 +29,76 @@ abbrev μ-loop : lts.MeasureT-loop
 
 module _ (t : ℕ) where
   abbrev claims : lts.Claims
-  claims = (eat-punctuation-reads.Asked, eat-punctuation-reads.Learnt, parse-sequence-below t, parse-sequence.Post, first-empty-reads.Asked, first-empty-reads.Learnt)
+  claims = (eat-punctuation-reads.Asked, eat-punctuation-reads.Learnt, parse-sequence-below t, parse-sequence.Post, expressed-cause-reads.Asked, expressed-cause-reads.Learnt, expressed-place-reads.Asked, expressed-place-reads.Learnt, first-empty-reads.Asked, first-empty-reads.Learnt)
 
-  -- src/expressions.rt:413:5
   loop-holds : lts.Need-loop-holds claims (arms-at t) arms.Post Inv-loop μ-loop
   loop-holds c = arming _ _ _ _ (c .before .before .before .pre .1 .lies)
 
-  -- src/expressions.rt:414:15
   eat-punctuation-requires : lts.Need-eat-punctuation-requires claims (arms-at t) arms.Post Inv-loop μ-loop
   eat-punctuation-requires c κs = search needs
 
-  -- src/expressions.rt:415:28
   enum-known-cause : lts.Need-enum-known-cause claims (arms-at t) arms.Post Inv-loop μ-loop
   enum-known-cause c = search needs
 
-  -- src/expressions.rt:416:17
   same-length : lts.Need-same-length claims (arms-at t) arms.Post Inv-loop μ-loop
   same-length c = omega (arith, c .before .before .before .before .loop .inv .listing .lays .stores .same-words)
 
-  -- src/expressions.rt:416:17
   same-length-2 : lts.Need-same-length-2 claims (arms-at t) arms.Post Inv-loop μ-loop
   same-length-2 c = omega (arith, c .before .before .before .before .loop .inv .listing .lays .stores .same-texts)
 
-  -- src/expressions.rt:416:17
   returns : lts.Need-returns claims (arms-at t) arms.Post Inv-loop μ-loop
   returns c = arming-refused (c .before .before .before .before .loop .inv) (arm-refused _ _ _ (eat-not _ "|" _ _ (c .before .before .before .eat-punctuation .ensures) (c .before .cause .given .1)))
 
-  -- src/expressions.rt:419:17
   enum-told : lts.Need-enum-told claims (arms-at t) arms.Post Inv-loop μ-loop
   enum-told c = search needs
 
-  -- src/expressions.rt:419:17
   same-length-3 : lts.Need-same-length-3 claims (arms-at t) arms.Post Inv-loop μ-loop
   same-length-3 c = omega (arith, c .before .before .before .loop .inv .listing .lays .stores .same-words)
 
-  -- src/expressions.rt:419:17
   same-length-4 : lts.Need-same-length-4 claims (arms-at t) arms.Post Inv-loop μ-loop
   same-length-4 c = omega (arith, c .before .before .before .loop .inv .listing .lays .stores .same-texts)
 
-  -- src/expressions.rt:419:17
   returns-2 : lts.Need-returns-2 claims (arms-at t) arms.Post Inv-loop μ-loop
   returns-2 c = arming-over (c .before .before .before .loop .inv) (arm-none _ _ _ (eat-no _ "|" _ _ (c .before .before .eat-punctuation .ensures) (c .enum-told .given .1)))
 
-  -- src/expressions.rt:421:24
   enum-known-u : lts.Need-enum-known-u claims (arms-at t) arms.Post Inv-loop μ-loop
   enum-known-u c = search needs
 
-  -- src/expressions.rt:421:36
   parse-sequence-requires : lts.Need-parse-sequence-requires claims (arms-at t) arms.Post Inv-loop μ-loop
   parse-sequence-requires c κs = let o = eat-onward _ "|" _ _ _ (omega arith) (c .before .before .before .before .before .before .loop .inv .listing .onward .lies) (c .before .before .before .before .before .eat-punctuation .ensures) (c .before .before .before .u .given .1) in (falls-past 19 18 (onward-then (c .before .before .before .before .before .before .loop .inv .listing .onward) o) (c .before .before .before .before .before .before .before .before .before .before .pre .0) (omega arith), arm-ready (c .before .before .before .before .before .before .loop .inv) (c .before .before .before .before .before .before .before .before .before .before .pre .1) refl refl o)
 
-  -- src/expressions.rt:422:36
-  enum-known-cause-2 : lts.Need-enum-known-cause-2 claims (arms-at t) arms.Post Inv-loop μ-loop
-  enum-known-cause-2 c = search needs
+  enum-known-arm : lts.Need-enum-known-arm claims (arms-at t) arms.Post Inv-loop μ-loop
+  enum-known-arm c = search needs
 
-  -- src/expressions.rt:423:21
+  enum-told-2 : lts.Need-enum-told-2 claims (arms-at t) arms.Post Inv-loop μ-loop
+  enum-told-2 c = search needs
+
+  cause-requires : lts.Need-cause-requires claims (arms-at t) arms.Post Inv-loop μ-loop
+  cause-requires c κs = search needs
+
+  place-requires : lts.Need-place-requires claims (arms-at t) arms.Post Inv-loop μ-loop
+  place-requires c κs = search needs
+
   same-length-5 : lts.Need-same-length-5 claims (arms-at t) arms.Post Inv-loop μ-loop
-  same-length-5 c = omega (arith, c .before .before .before .before .before .before .before .before .before .before .before .before .before .before .loop .inv .listing .lays .stores .same-words)
+  same-length-5 c = omega (arith, c .before .before .before .before .before .before .before .before .before .before .before .before .before .before .before .loop .inv .listing .lays .stores .same-words)
 
-  -- src/expressions.rt:423:21
   same-length-6 : lts.Need-same-length-6 claims (arms-at t) arms.Post Inv-loop μ-loop
-  same-length-6 c = omega (arith, c .before .before .before .before .before .before .before .before .before .before .before .before .before .before .loop .inv .listing .lays .stores .same-texts)
+  same-length-6 c = omega (arith, c .before .before .before .before .before .before .before .before .before .before .before .before .before .before .before .loop .inv .listing .lays .stores .same-texts)
 
-  -- src/expressions.rt:423:21
   returns-3 : lts.Need-returns-3 claims (arms-at t) arms.Post Inv-loop μ-loop
-  returns-3 c = arming-refused (c .before .before .before .before .before .before .before .before .before .before .before .before .before .before .loop .inv) (arm-sequence _ _ _ (eat-yes _ "|" _ _ (c .before .before .before .before .before .before .before .before .before .before .before .before .before .eat-punctuation .ensures) (c .before .before .before .before .before .before .before .before .before .before .before .u .given .1)) (expressed-not _ _ _ _ _ _ _ _ _ (c .before .before .before .before .before .before .before .parse-sequence .ensures) (c .before .cause2 .given .1)))
+  returns-3 c = arming-refused (c .before .before .before .before .before .before .before .before .before .before .before .before .before .before .before .loop .inv) (arm-sequence _ _ _ (eat-yes _ "|" _ _ (c .before .before .before .before .before .before .before .before .before .before .before .before .before .before .eat-punctuation .ensures) (c .before .before .before .before .before .before .before .before .before .before .before .before .u .given .1)) (expressed-not _ _ _ _ _ _ _ _ _ (c .before .before .before .before .before .before .before .before .parse-sequence .ensures) (expressed-told (c .before .before .enum-told2 .given .1) (c .before .cause2 .ensures) (c .place .ensures))))
 
-  -- src/expressions.rt:425:33
-  enum-known-v : lts.Need-enum-known-v claims (arms-at t) arms.Post Inv-loop μ-loop
-  enum-known-v c = search needs
-
-  -- src/expressions.rt:429:21
   add-count : lts.Need-add-count claims (arms-at t) arms.Post Inv-loop μ-loop
   add-count c = let k = arming-small (c .before .before .before .before .before .before .before .before .before .before .before .before .before .before .loop .inv) (c .before .before .before .before .before .before .before .before .before .before .before .before .before .before .before .before .before .before .pre .1 .small) in omega arith
 
-  -- src/expressions.rt:430:21
   first-empty-requires : lts.Need-first-empty-requires claims (arms-at t) arms.Post Inv-loop μ-loop
   first-empty-requires c κs = search needs
 
-  -- src/expressions.rt:413:5
   loop-less : lts.Need-loop-less claims (arms-at t) arms.Post Inv-loop μ-loop
-  loop-less c = let o = eat-onward _ "|" _ _ _ (omega arith) (c .before .before .before .before .before .before .before .before .before .before .before .before .before .before .before .loop .inv .listing .onward .lies) (c .before .before .before .before .before .before .before .before .before .before .before .before .before .before .eat-punctuation .ensures) (c .before .before .before .before .before .before .before .before .before .before .before .before .u .given .1) in let g = expressed _ _ _ _ _ _ _ _ _ (c .before .before .before .before .before .before .before .before .parse-sequence .ensures) (c .before .before .v .given .1) in let a = o .fewer in let b = g .onward .fewer in omega arith
+  loop-less c = let o = eat-onward _ "|" _ _ _ (omega arith) (c .before .before .before .before .before .before .before .before .before .before .before .before .before .before .before .loop .inv .listing .onward .lies) (c .before .before .before .before .before .before .before .before .before .before .before .before .before .before .eat-punctuation .ensures) (c .before .before .before .before .before .before .before .before .before .before .before .before .u .given .1) in let g = expressed _ _ _ _ _ _ _ _ _ (c .before .before .before .before .before .before .before .before .parse-sequence .ensures) (c .before .before .arm .given .1) in let a = o .fewer in let b = g .onward .fewer in omega arith
 
-  -- src/expressions.rt:413:5
   loop-again : lts.Need-loop-again claims (arms-at t) arms.Post Inv-loop μ-loop
-  loop-again c = rw (c .first-empty .ensures) (arming-more (c .before .before .before .before .before .before .before .before .before .before .before .before .before .before .before .loop .inv) (expressed _ _ _ _ _ _ _ _ _ (c .before .before .before .before .before .before .before .before .parse-sequence .ensures) (c .before .before .v .given .1)) (eat-onward _ "|" _ _ _ (omega arith) (c .before .before .before .before .before .before .before .before .before .before .before .before .before .before .before .loop .inv .listing .onward .lies) (c .before .before .before .before .before .before .before .before .before .before .before .before .before .before .eat-punctuation .ensures) (c .before .before .before .before .before .before .before .before .before .before .before .before .u .given .1)) (eat-yes _ "|" _ _ (c .before .before .before .before .before .before .before .before .before .before .before .before .before .before .eat-punctuation .ensures) (c .before .before .before .before .before .before .before .before .before .before .before .before .u .given .1)))
+  loop-again c = rw (c .first-empty .ensures) (arming-more (c .before .before .before .before .before .before .before .before .before .before .before .before .before .before .before .loop .inv) (expressed _ _ _ _ _ _ _ _ _ (c .before .before .before .before .before .before .before .before .parse-sequence .ensures) (c .before .before .arm .given .1)) (eat-onward _ "|" _ _ _ (omega arith) (c .before .before .before .before .before .before .before .before .before .before .before .before .before .before .before .loop .inv .listing .onward .lies) (c .before .before .before .before .before .before .before .before .before .before .before .before .before .before .eat-punctuation .ensures) (c .before .before .before .before .before .before .before .before .before .before .before .before .u .given .1)) (eat-yes _ "|" _ _ (c .before .before .before .before .before .before .before .before .before .before .before .before .before .before .eat-punctuation .ensures) (c .before .before .before .before .before .before .before .before .before .before .before .before .u .given .1)))
 
   pub met : {M : Type 1} → lts.Closed claims (arms-at t) arms.Post M
-  met = lts.spec claims (arms-at t) arms.Post Inv-loop μ-loop loop-holds eat-punctuation-requires enum-known-cause same-length same-length-2 returns enum-told same-length-3 same-length-4 returns-2 enum-known-u parse-sequence-requires enum-known-cause-2 same-length-5 same-length-6 returns-3 enum-known-v add-count first-empty-requires loop-less loop-again
+  met = lts.spec claims (arms-at t) arms.Post Inv-loop μ-loop loop-holds eat-punctuation-requires enum-known-cause same-length same-length-2 returns enum-told same-length-3 same-length-4 returns-2 enum-known-u parse-sequence-requires enum-known-arm enum-told-2 cause-requires place-requires same-length-5 same-length-6 returns-3 add-count first-empty-requires loop-less loop-again

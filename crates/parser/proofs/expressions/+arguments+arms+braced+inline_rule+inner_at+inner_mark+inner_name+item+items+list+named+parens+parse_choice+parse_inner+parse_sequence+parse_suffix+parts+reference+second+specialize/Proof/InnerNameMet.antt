@@ -7,6 +7,7 @@ use Rattle.parser.proofs.Onward.{name-token}
 use Rattle.parser.proofs.Ready.{arrived-at, arrived-not, name-in}
 use Rattle.parser.proofs.InnerRules.{spelled, inner-any, inner-named, inner-named-refused}
 use Rattle.parser.proofs.InnerLaws.{expresses-as, next-behind, plain-any}
+use Rattle.tokens.proofs.Told.{arrived-told}
 use Rattle.parser.proofs.expressions.+arguments+arms+braced+inline_rule+inner_at+inner_mark+inner_name+item+items+list+named+parens+parse_choice+parse_inner+parse_sequence+parse_suffix+parts+reference+second+specialize.Proof.Falls.{falls-past, inner-name-at, named-below}
 use Rattle.parser.proofs.expressions.inner_name.Reads as inner-name
 use Rattle.parser.proofs.expressions.+arguments+arms+braced+inline_rule+inner_at+inner_mark+inner_name+item+items+list+named+parens+parse_choice+parse_inner+parse_sequence+parse_suffix+parts+reference+second+specialize.Lts-inner_name as lts
@@ -14,78 +15,69 @@ use Rattle.parser.proofs.expressions.named.Reads as named
 use Rattle.tokens.proofs.next.Reads as next-reads
 use Rattle.parser.proofs.parts.parse_any.Reads as parse-any-reads
 use Rattle.lexer.proofs.words.spells.Reads as spells-reads
+use Rattle.tokens.proofs.Arrived.cause.Reads as arrived-cause-reads
+use Rattle.tokens.proofs.Arrived.place.Reads as arrived-place-reads
 
 module _ (t : ℕ) where
   abbrev claims : lts.Claims
-  claims = (spells-reads.Asked, spells-reads.Learnt, parse-any-reads.Asked, parse-any-reads.Learnt, next-reads.Asked, next-reads.Learnt, named-below t, named.Post)
+  claims = (spells-reads.Asked, spells-reads.Learnt, parse-any-reads.Asked, parse-any-reads.Learnt, next-reads.Asked, next-reads.Learnt, arrived-cause-reads.Asked, arrived-cause-reads.Learnt, arrived-place-reads.Asked, arrived-place-reads.Learnt, named-below t, named.Post)
 
-  -- src/expressions.rt:117:29
   sub-spells : lts.Need-sub-spells claims (inner-name-at t) inner-name.Post
   sub-spells c = name-in (c .before .before .before .pre .1 .0) (c .before .before .before .pre .1 .1) .part .forth
 
-  -- src/expressions.rt:117:29
   part-spells-start : lts.Need-part-spells-start claims (inner-name-at t) inner-name.Post
   part-spells-start c = name-in (c .before .before .before .pre .1 .0) (c .before .before .before .pre .1 .1) .part .forth
 
-  -- src/expressions.rt:117:29
   part-spells-end : lts.Need-part-spells-end claims (inner-name-at t) inner-name.Post
   part-spells-end c = name-in (c .before .before .before .pre .1 .0) (c .before .before .before .pre .1 .1) .part .inside
 
-  -- src/expressions.rt:117:44
   slice-aggregate-spells : lts.Need-slice-aggregate-spells claims (inner-name-at t) inner-name.Post
   slice-aggregate-spells c = search needs
 
-  -- src/expressions.rt:117:8
   spells-requires : lts.Need-spells-requires claims (inner-name-at t) inner-name.Post
   spells-requires c κs = search needs
 
-  -- src/expressions.rt:118:9
   parse-any-requires : lts.Need-parse-any-requires claims (inner-name-at t) inner-name.Post
   parse-any-requires c κs = (c .before .before .before .before .before .before .before .before .before .pre .1 .0, name-token (c .before .before .before .before .before .before .before .before .before .args .token) (c .before .before .before .before .before .before .before .before .before .pre .1 .1))
 
-  -- src/expressions.rt:118:9
   same-length : lts.Need-same-length claims (inner-name-at t) inner-name.Post
   same-length c = search needs
 
-  -- src/expressions.rt:118:9
   same-length-2 : lts.Need-same-length-2 claims (inner-name-at t) inner-name.Post
   same-length-2 c = search needs
 
-  -- src/expressions.rt:118:9
   returns : lts.Need-returns claims (inner-name-at t) inner-name.Post
   returns c = let w = spelled _ _ _ _ _ (name-in (c .before .before .before .before .before .before .before .before .before .before .before .before .before .before .pre .1 .0) (c .before .before .before .before .before .before .before .before .before .before .before .before .before .before .pre .1 .1) .part) (c .before .before .before .before .before .before .before .before .spells .ensures) plain-any in expresses-as _ _ _ _ _ _ _ _ _ (c .before .before .before .before .parse-any .result) (c .before .before .before .before .parse-any .ensures) (inner-any _ _ _ (c .before .before .before .before .before .before .before .before .before .before .before .before .before .before .pre .1 .1) (w ∙ c .before .before .before .before .before .before .before .if1 .taken))
 
-  -- src/expressions.rt:120:11
   next-requires : lts.Need-next-requires claims (inner-name-at t) inner-name.Post
   next-requires c κs = search needs
 
-  -- src/expressions.rt:121:26
-  enum-known-cause : lts.Need-enum-known-cause claims (inner-name-at t) inner-name.Post
-  enum-known-cause c = search needs
+  enum-known-arrived : lts.Need-enum-known-arrived claims (inner-name-at t) inner-name.Post
+  enum-known-arrived c = search needs
 
-  -- src/expressions.rt:122:21
-  enum-known-u : lts.Need-enum-known-u claims (inner-name-at t) inner-name.Post
-  enum-known-u c = search needs
+  enum-told : lts.Need-enum-told claims (inner-name-at t) inner-name.Post
+  enum-told c = search needs
 
-  -- src/expressions.rt:122:27
-  named-requires : lts.Need-named-requires claims (inner-name-at t) inner-name.Post
-  named-requires c κs = let o = next-behind _ _ _ _ (name-token (c .before .before .before .before .before .before .before .before .before .before .before .before .before .args .token) (c .before .before .before .before .before .before .before .before .before .before .before .before .before .pre .1 .1)) (c .before .before .before .before .before .before .before .before .before .before .before .before .before .pre .1 .0 .lies) (c .before .before .before .before .before .next .ensures) (c .before .before .before .u .given .1) in (falls-past 13 13 (o .on) (c .before .before .before .before .before .before .before .before .before .before .before .before .before .pre .0) (omega arith), (c .before .before .before .before .before .before .before .before .before .before .before .before .before .pre .1 .0, o, c .before .before .before .before .before .before .before .before .before .before .before .before .before .pre .1 .1))
+  cause-requires : lts.Need-cause-requires claims (inner-name-at t) inner-name.Post
+  cause-requires c κs = search needs
 
-  -- src/expressions.rt:112:1
+  place-requires : lts.Need-place-requires claims (inner-name-at t) inner-name.Post
+  place-requires c κs = search needs
+
   returns-2 : lts.Need-returns-2 claims (inner-name-at t) inner-name.Post
-  returns-2 c = let w = spelled _ _ _ _ _ (name-in (c .before .before .before .before .before .before .before .before .before .before .before .pre .1 .0) (c .before .before .before .before .before .before .before .before .before .before .before .pre .1 .1) .part) (c .before .before .before .before .before .spells .ensures) plain-any in inner-named-refused _ _ _ (c .before .before .before .before .before .before .before .before .before .before .before .pre .1 .1) (w ∙ c .before .before .before .before .if1 .left) (arrived-not _ _ (c .before .before .before .next .ensures .0) (c .before .cause .given .1))
+  returns-2 c = let w = spelled _ _ _ _ _ (name-in (c .before .before .before .before .before .before .before .before .before .before .before .before .pre .1 .0) (c .before .before .before .before .before .before .before .before .before .before .before .before .pre .1 .1) .part) (c .before .before .before .before .before .before .spells .ensures) plain-any in inner-named-refused _ _ _ (c .before .before .before .before .before .before .before .before .before .before .before .before .pre .1 .1) (w ∙ c .before .before .before .before .before .if1 .left) (arrived-not _ _ (c .before .before .before .before .next .ensures .0) (arrived-told (c .before .before .enum-told .given .1) (c .before .cause .ensures) (c .place .ensures)))
 
-  -- src/expressions.rt:112:1
+  named-requires : lts.Need-named-requires claims (inner-name-at t) inner-name.Post
+  named-requires c κs = let o = next-behind _ _ _ _ (name-token (c .before .before .before .before .before .before .before .before .before .before .before .before .before .args .token) (c .before .before .before .before .before .before .before .before .before .before .before .before .before .pre .1 .1)) (c .before .before .before .before .before .before .before .before .before .before .before .before .before .pre .1 .0 .lies) (c .before .before .before .before .before .next .ensures) (c .before .before .before .arrived .given .1) in (falls-past 13 13 (o .on) (c .before .before .before .before .before .before .before .before .before .before .before .before .before .pre .0) (omega arith), (c .before .before .before .before .before .before .before .before .before .before .before .before .before .pre .1 .0, o, c .before .before .before .before .before .before .before .before .before .before .before .before .before .pre .1 .1))
+
   same-length-3 : lts.Need-same-length-3 claims (inner-name-at t) inner-name.Post
   same-length-3 c = search needs
 
-  -- src/expressions.rt:112:1
   same-length-4 : lts.Need-same-length-4 claims (inner-name-at t) inner-name.Post
   same-length-4 c = search needs
 
-  -- src/expressions.rt:112:1
   returns-3 : lts.Need-returns-3 claims (inner-name-at t) inner-name.Post
-  returns-3 c = let w = spelled _ _ _ _ _ (name-in (c .before .before .before .before .before .before .before .before .before .before .before .before .before .before .before .before .before .before .pre .1 .0) (c .before .before .before .before .before .before .before .before .before .before .before .before .before .before .before .before .before .before .pre .1 .1) .part) (c .before .before .before .before .before .before .before .before .before .before .before .before .spells .ensures) plain-any in expresses-as _ _ _ _ _ _ _ _ _ (c .before .before .before .before .named .result) (c .before .before .before .before .named .ensures) (inner-named _ _ _ (c .before .before .before .before .before .before .before .before .before .before .before .before .before .before .before .before .before .before .pre .1 .1) (w ∙ c .before .before .before .before .before .before .before .before .before .before .before .if1 .left) (arrived-at _ _ (c .before .before .before .before .before .before .before .before .before .before .next .ensures .0) (c .before .before .before .before .before .before .before .before .u .given .1)))
+  returns-3 c = let w = spelled _ _ _ _ _ (name-in (c .before .before .before .before .before .before .before .before .before .before .before .before .before .before .before .before .before .before .pre .1 .0) (c .before .before .before .before .before .before .before .before .before .before .before .before .before .before .before .before .before .before .pre .1 .1) .part) (c .before .before .before .before .before .before .before .before .before .before .before .before .spells .ensures) plain-any in expresses-as _ _ _ _ _ _ _ _ _ (c .before .before .before .before .named .result) (c .before .before .before .before .named .ensures) (inner-named _ _ _ (c .before .before .before .before .before .before .before .before .before .before .before .before .before .before .before .before .before .before .pre .1 .1) (w ∙ c .before .before .before .before .before .before .before .before .before .before .before .if1 .left) (arrived-at _ _ (c .before .before .before .before .before .before .before .before .before .before .next .ensures .0) (c .before .before .before .before .before .before .before .before .arrived .given .1)))
 
   pub met : {M : Type 1} → lts.Closed claims (inner-name-at t) inner-name.Post M
-  met = lts.spec claims (inner-name-at t) inner-name.Post sub-spells part-spells-start part-spells-end slice-aggregate-spells spells-requires parse-any-requires same-length same-length-2 returns next-requires enum-known-cause enum-known-u named-requires returns-2 same-length-3 same-length-4 returns-3
+  met = lts.spec claims (inner-name-at t) inner-name.Post sub-spells part-spells-start part-spells-end slice-aggregate-spells spells-requires parse-any-requires same-length same-length-2 returns next-requires enum-known-arrived enum-told cause-requires place-requires returns-2 named-requires same-length-3 same-length-4 returns-3

@@ -6,6 +6,7 @@ use borrow.Author.Needs.{needs}
 use Rattle.parser.proofs.Took.{expressed, expressed-not}
 use Rattle.parser.proofs.SequenceRules.{item-marker, item-end, item-refused, item-some}
 use Rattle.parser.proofs.Marks.{marked-some, marked-none, marker-token}
+use Rattle.parser.proofs.Told.{expressed-told}
 use Rattle.parser.proofs.expressions.+arguments+arms+braced+inline_rule+inner_at+inner_mark+inner_name+item+items+list+named+parens+parse_choice+parse_inner+parse_sequence+parse_suffix+parts+reference+second+specialize.Proof.Falls.{item-at, parse-suffix-below}
 use Rattle.parser.proofs.expressions.item.Reads as item
 use Rattle.parser.proofs.expressions.+arguments+arms+braced+inline_rule+inner_at+inner_mark+inner_name+item+items+list+named+parens+parse_choice+parse_inner+parse_sequence+parse_suffix+parts+reference+second+specialize.Lts-item as lts
@@ -14,87 +15,76 @@ use Rattle.parser.proofs.parts.ends_sequence.Reads as ends-sequence-rea
 use Rattle.tokens.proofs.mark.Reads as mark-reads
 use Rattle.parser.proofs.parts.marker_kind.Reads as marker-kind-reads
 use Rattle.parser.proofs.parts.parse_marker.Reads as parse-marker-reads
+use Rattle.parser.proofs.parts.Expressed.cause.Reads as expressed-cause-reads
+use Rattle.parser.proofs.parts.Expressed.place.Reads as expressed-place-reads
 
 module _ (t : ℕ) where
   abbrev claims : lts.Claims
-  claims = (mark-reads.Asked, mark-reads.Learnt, marker-kind-reads.Asked, marker-kind-reads.Learnt, parse-marker-reads.Asked, parse-marker-reads.Learnt, ends-sequence-reads.Asked, ends-sequence-reads.Learnt, parse-suffix-below t, parse-suffix.Post)
+  claims = (mark-reads.Asked, mark-reads.Learnt, marker-kind-reads.Asked, marker-kind-reads.Learnt, parse-marker-reads.Asked, parse-marker-reads.Learnt, ends-sequence-reads.Asked, ends-sequence-reads.Learnt, parse-suffix-below t, parse-suffix.Post, expressed-cause-reads.Asked, expressed-cause-reads.Learnt, expressed-place-reads.Asked, expressed-place-reads.Learnt)
 
-  -- src/expressions.rt:331:30
   mark-requires : lts.Need-mark-requires claims (item-at t) item.Post
   mark-requires c κs = search needs
 
-  -- src/expressions.rt:331:11
   marker-kind-requires : lts.Need-marker-kind-requires claims (item-at t) item.Post
   marker-kind-requires c κs = search needs
 
-  -- src/expressions.rt:332:22
   enum-known-kind : lts.Need-enum-known-kind claims (item-at t) item.Post
   enum-known-kind c = search needs
 
-  -- src/expressions.rt:332:31
   parse-marker-requires : lts.Need-parse-marker-requires claims (item-at t) item.Post
   parse-marker-requires c κs = (c .before .before .before .before .before .before .before .before .before .before .pre .1, marker-token (c .before .before .before .before .before .before .before .before .before .before .args .token) (rw (c .before .before .before .before .before .before .mark .ensures) at (marked-some _ (c .before .before .before .before .before .marker-kind .ensures) (c .before .before .before .kind .given .1))))
 
-  -- src/expressions.rt:334:16
   enum-told : lts.Need-enum-told claims (item-at t) item.Post
   enum-told c = search needs
 
-  -- src/expressions.rt:334:16
   ends-sequence-requires : lts.Need-ends-sequence-requires claims (item-at t) item.Post
   ends-sequence-requires c κs = search needs
 
-  -- src/expressions.rt:335:17
   returns : lts.Need-returns claims (item-at t) item.Post
   returns c = record { gives = item-end _ _ _ _ (rw (c .before .before .before .before .before .mark .ensures) at (marked-none _ (c .before .before .before .before .marker-kind .ensures) (c .before .before .enum-told .given .1))) (sym (c .before .ends-sequence .ensures) ∙ c .if1 .taken); same-words = refl; same-texts = refl }
 
-  -- src/expressions.rt:337:19
   parse-suffix-requires : lts.Need-parse-suffix-requires claims (item-at t) item.Post
   parse-suffix-requires c κs = (omega (arith, c .before .before .before .before .before .before .before .before .before .before .before .pre .0), c .before .before .before .before .before .before .before .before .before .before .before .pre .1)
 
-  -- src/expressions.rt:338:36
-  enum-known-cause : lts.Need-enum-known-cause claims (item-at t) item.Post
-  enum-known-cause c = search needs
+  enum-known-suffixed : lts.Need-enum-known-suffixed claims (item-at t) item.Post
+  enum-known-suffixed c = search needs
 
-  -- src/expressions.rt:339:33
-  enum-known-u : lts.Need-enum-known-u claims (item-at t) item.Post
-  enum-known-u c = search needs
+  enum-told-2 : lts.Need-enum-told-2 claims (item-at t) item.Post
+  enum-told-2 c = search needs
 
-  -- src/expressions.rt:326:1
+  cause-requires : lts.Need-cause-requires claims (item-at t) item.Post
+  cause-requires c κs = search needs
+
+  place-requires : lts.Need-place-requires claims (item-at t) item.Post
+  place-requires c κs = search needs
+
   same-length : lts.Need-same-length claims (item-at t) item.Post
   same-length c = search needs
 
-  -- src/expressions.rt:326:1
   same-length-2 : lts.Need-same-length-2 claims (item-at t) item.Post
   same-length-2 c = search needs
 
-  -- src/expressions.rt:326:1
   returns-2 : lts.Need-returns-2 claims (item-at t) item.Post
-  returns-2 c = rw (item-marker _ _ _ _ (rw (c .before .before .before .before .before .before .before .before .before .before .before .mark .ensures) at (marked-some _ (c .before .before .before .before .before .before .before .before .before .before .marker-kind .ensures) (c .before .before .before .before .before .before .before .before .kind .given .1)))) (c .before .before .before .before .parse-marker .ensures)
+  returns-2 c = item-refused _ _ _ _ (rw (c .before .before .before .before .before .before .before .before .before .before .before .before .before .before .before .before .mark .ensures) at (marked-none _ (c .before .before .before .before .before .before .before .before .before .before .before .before .before .before .before .marker-kind .ensures) (c .before .before .before .before .before .before .before .before .before .before .before .before .before .enum-told .given .1))) (sym (c .before .before .before .before .before .before .before .before .before .before .before .before .ends-sequence .ensures) ∙ c .before .before .before .before .before .before .before .before .before .before .before .if1 .left) (expressed-not _ _ _ _ _ _ _ _ _ (c .before .before .before .before .before .before .before .before .parse-suffix .ensures) (expressed-told (c .before .before .enum-told2 .given .1) (c .before .cause .ensures) (c .place .ensures)))
 
-  -- src/expressions.rt:326:1
   same-length-3 : lts.Need-same-length-3 claims (item-at t) item.Post
   same-length-3 c = search needs
 
-  -- src/expressions.rt:326:1
   same-length-4 : lts.Need-same-length-4 claims (item-at t) item.Post
   same-length-4 c = search needs
 
-  -- src/expressions.rt:326:1
   returns-3 : lts.Need-returns-3 claims (item-at t) item.Post
-  returns-3 c = item-refused _ _ _ _ (rw (c .before .before .before .before .before .before .before .before .before .before .before .before .before .before .before .mark .ensures) at (marked-none _ (c .before .before .before .before .before .before .before .before .before .before .before .before .before .before .marker-kind .ensures) (c .before .before .before .before .before .before .before .before .before .before .before .before .enum-told .given .1))) (sym (c .before .before .before .before .before .before .before .before .before .before .before .ends-sequence .ensures) ∙ c .before .before .before .before .before .before .before .before .before .before .if1 .left) (expressed-not _ _ _ _ _ _ _ _ _ (c .before .before .before .before .before .before .before .parse-suffix .ensures) (c .before .cause .given .1))
+  returns-3 c = rw (item-marker _ _ _ _ (rw (c .before .before .before .before .before .before .before .before .before .before .before .mark .ensures) at (marked-some _ (c .before .before .before .before .before .before .before .before .before .before .marker-kind .ensures) (c .before .before .before .before .before .before .before .before .kind .given .1)))) (c .before .before .before .before .parse-marker .ensures)
 
-  -- src/expressions.rt:326:1
   same-length-5 : lts.Need-same-length-5 claims (item-at t) item.Post
   same-length-5 c = search needs
 
-  -- src/expressions.rt:326:1
   same-length-6 : lts.Need-same-length-6 claims (item-at t) item.Post
   same-length-6 c = search needs
 
-  -- src/expressions.rt:326:1
   returns-4 : lts.Need-returns-4 claims (item-at t) item.Post
-  returns-4 c = let g = expressed _ _ _ _ _ _ _ _ _ (c .before .before .before .before .before .before .before .parse-suffix .ensures) (c .before .u .given .1) in
+  returns-4 c = let g = expressed _ _ _ _ _ _ _ _ _ (c .before .before .before .before .before .before .before .parse-suffix .ensures) (c .before .suffixed .given .1) in
       record { tree = g .tree; gives = item-some _ _ _ _ (rw (c .before .before .before .before .before .before .before .before .before .before .before .before .before .before .before .mark .ensures) at (marked-none _ (c .before .before .before .before .before .before .before .before .before .before .before .before .before .before .marker-kind .ensures) (c .before .before .before .before .before .before .before .before .before .before .before .before .enum-told .given .1))) (sym (c .before .before .before .before .before .before .before .before .before .before .before .ends-sequence .ensures) ∙ c .before .before .before .before .before .before .before .before .before .before .if1 .left) (g .gives); onward = g .onward; lays = g .lays; shown = g .shown }
 
   pub met : {M : Type 1} → lts.Closed claims (item-at t) item.Post M
-  met = lts.spec claims (item-at t) item.Post mark-requires marker-kind-requires enum-known-kind parse-marker-requires enum-told ends-sequence-requires returns parse-suffix-requires enum-known-cause enum-known-u same-length same-length-2 returns-2 same-length-3 same-length-4 returns-3 same-length-5 same-length-6 returns-4
+  met = lts.spec claims (item-at t) item.Post mark-requires marker-kind-requires enum-known-kind parse-marker-requires enum-told ends-sequence-requires returns parse-suffix-requires enum-known-suffixed enum-told-2 cause-requires place-requires same-length same-length-2 returns-2 same-length-3 same-length-4 returns-3 same-length-5 same-length-6 returns-4

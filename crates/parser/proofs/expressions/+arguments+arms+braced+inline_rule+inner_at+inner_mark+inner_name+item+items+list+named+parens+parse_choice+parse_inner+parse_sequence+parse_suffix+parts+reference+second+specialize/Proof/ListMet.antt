@@ -14,11 +14,14 @@ use Rattle.parser.proofs.Ready.{listing-small}
 use Rattle.parser.proofs.Openings.{item-onward, list-closed, list-refused}
 use Rattle.parser.proofs.Took.{expressed, expressed-not}
 use Rattle.parser.proofs.InnerLaws.{argument-ready, argument-refused, argument-more}
+use Rattle.parser.proofs.Told.{expressed-told}
 use Rattle.parser.proofs.expressions.+arguments+arms+braced+inline_rule+inner_at+inner_mark+inner_name+item+items+list+named+parens+parse_choice+parse_inner+parse_sequence+parse_suffix+parts+reference+second+specialize.Proof.Falls.{falls-on, list-at, parse-choice-below}
 use Rattle.parser.proofs.expressions.list.Reads as list
 use Rattle.parser.proofs.expressions.+arguments+arms+braced+inline_rule+inner_at+inner_mark+inner_name+item+items+list+named+parens+parse_choice+parse_inner+parse_sequence+parse_suffix+parts+reference+second+specialize.Lts-list as lts
 use Rattle.parser.proofs.expressions.parse_choice.Reads as parse-choice
 use Rattle.parser.proofs.props.opening.Reads as opening-reads
+use Rattle.parser.proofs.parts.Expressed.cause.Reads as expressed-cause-reads
+use Rattle.parser.proofs.parts.Expressed.place.Reads as expressed-place-reads
 
 abbrev Inv-loop : lts.InvT-loop
 Inv-loop source left records₀ n texts₀ x t₀ m₀ y₀ count₀ records texts t m y count = Listing (untilStep (eat ">") comma (λ _. choiceAt left)) (nodesOf expressionBranch) source t₀ 2 (lent n records₀ x texts₀) t (lent m records y texts) count
@@ -28,87 +31,73 @@ abbrev μ-loop : lts.MeasureT-loop
 
 module _ (t : ℕ) where
   abbrev claims : lts.Claims
-  claims = (opening-reads.Asked, opening-reads.Learnt, parse-choice-below t, parse-choice.Post)
+  claims = (opening-reads.Asked, opening-reads.Learnt, parse-choice-below t, parse-choice.Post, expressed-cause-reads.Asked, expressed-cause-reads.Learnt, expressed-place-reads.Asked, expressed-place-reads.Learnt)
 
-  -- src/expressions.rt:271:5
   loop-holds : lts.Need-loop-holds claims (list-at t) list.Post Inv-loop μ-loop
   loop-holds c = listing-start _ _ _ _ _ _ (c .before .before .before .pre .1 .lies)
 
-  -- src/expressions.rt:272:15
   opening-requires : lts.Need-opening-requires claims (list-at t) list.Post Inv-loop μ-loop
   opening-requires c κs = (c .loop .inv .onward .lies, omega arith)
 
-  -- src/expressions.rt:273:28
   enum-known-u : lts.Need-enum-known-u claims (list-at t) list.Post Inv-loop μ-loop
   enum-known-u c = search needs
 
-  -- src/expressions.rt:274:17
   same-length : lts.Need-same-length claims (list-at t) list.Post Inv-loop μ-loop
   same-length c = omega (arith, c .before .before .before .before .loop .inv .lays .stores .same-words)
 
-  -- src/expressions.rt:274:17
   same-length-2 : lts.Need-same-length-2 claims (list-at t) list.Post Inv-loop μ-loop
   same-length-2 c = omega (arith, c .before .before .before .before .loop .inv .lays .stores .same-texts)
 
-  -- src/expressions.rt:274:17
   returns : lts.Need-returns claims (list-at t) list.Post Inv-loop μ-loop
   returns c = list-closed ">" Must (λ _. choiceAt (c .before .before .before .before .before .before .before .before .args .left)) (c .before .before .before .before .loop .inv) _ (c .before .before .before .opening .ensures) (c .before .u .given .1) (omega arith)
 
-  -- src/expressions.rt:276:29
   enum-known-cause : lts.Need-enum-known-cause claims (list-at t) list.Post Inv-loop μ-loop
   enum-known-cause c = search needs
 
-  -- src/expressions.rt:277:17
   same-length-3 : lts.Need-same-length-3 claims (list-at t) list.Post Inv-loop μ-loop
   same-length-3 c = omega (arith, c .before .before .before .before .loop .inv .lays .stores .same-words)
 
-  -- src/expressions.rt:277:17
   same-length-4 : lts.Need-same-length-4 claims (list-at t) list.Post Inv-loop μ-loop
   same-length-4 c = omega (arith, c .before .before .before .before .loop .inv .lays .stores .same-texts)
 
-  -- src/expressions.rt:277:17
   returns-2 : lts.Need-returns-2 claims (list-at t) list.Post Inv-loop μ-loop
   returns-2 c = list-refused ">" Must (λ _. choiceAt (c .before .before .before .before .before .before .before .before .args .left)) (c .before .before .before .before .loop .inv) _ (c .before .before .before .opening .ensures) (c .before .cause .given .1)
 
-  -- src/expressions.rt:279:26
   enum-known-u-2 : lts.Need-enum-known-u-2 claims (list-at t) list.Post Inv-loop μ-loop
   enum-known-u-2 c = search needs
 
-  -- src/expressions.rt:279:38
   parse-choice-requires : lts.Need-parse-choice-requires claims (list-at t) list.Post Inv-loop μ-loop
   parse-choice-requires c κs = let o = item-onward ">" (c .before .before .before .before .before .opening .ensures) (c .before .before .before .u2 .given .1) in (falls-on 21 20 (onward-then (c .before .before .before .before .before .before .loop .inv .onward) o) (c .before .before .before .before .before .before .before .before .before .before .pre .0) (omega arith), argument-ready (c .before .before .before .before .before .before .before .before .before .before .args .left) (c .before .before .before .before .before .before .before .before .before .before .pre .1) (c .before .before .before .before .before .before .loop .inv) o)
 
-  -- src/expressions.rt:280:36
-  enum-known-cause-2 : lts.Need-enum-known-cause-2 claims (list-at t) list.Post Inv-loop μ-loop
-  enum-known-cause-2 c = search needs
+  enum-known-argument : lts.Need-enum-known-argument claims (list-at t) list.Post Inv-loop μ-loop
+  enum-known-argument c = search needs
 
-  -- src/expressions.rt:281:21
+  enum-told : lts.Need-enum-told claims (list-at t) list.Post Inv-loop μ-loop
+  enum-told c = search needs
+
+  cause-requires : lts.Need-cause-requires claims (list-at t) list.Post Inv-loop μ-loop
+  cause-requires c κs = search needs
+
+  place-requires : lts.Need-place-requires claims (list-at t) list.Post Inv-loop μ-loop
+  place-requires c κs = search needs
+
   same-length-5 : lts.Need-same-length-5 claims (list-at t) list.Post Inv-loop μ-loop
-  same-length-5 c = omega (arith, c .before .before .before .before .before .before .before .before .before .before .before .before .before .before .loop .inv .lays .stores .same-words)
+  same-length-5 c = omega (arith, c .before .before .before .before .before .before .before .before .before .before .before .before .before .before .before .loop .inv .lays .stores .same-words)
 
-  -- src/expressions.rt:281:21
   same-length-6 : lts.Need-same-length-6 claims (list-at t) list.Post Inv-loop μ-loop
-  same-length-6 c = omega (arith, c .before .before .before .before .before .before .before .before .before .before .before .before .before .before .loop .inv .lays .stores .same-texts)
+  same-length-6 c = omega (arith, c .before .before .before .before .before .before .before .before .before .before .before .before .before .before .before .loop .inv .lays .stores .same-texts)
 
-  -- src/expressions.rt:281:21
   returns-3 : lts.Need-returns-3 claims (list-at t) list.Post Inv-loop μ-loop
-  returns-3 c = argument-refused (c .before .before .before .before .before .before .before .before .before .before .before .before .before .before .before .before .before .before .args .left) (c .before .before .before .before .before .before .before .before .before .before .before .before .before .before .loop .inv) _ (c .before .before .before .before .before .before .before .before .before .before .before .before .before .opening .ensures) (c .before .before .before .before .before .before .before .before .before .before .before .u2 .given .1) (expressed-not _ _ _ _ _ _ _ _ _ (c .before .before .before .before .before .before .before .parse-choice .ensures) (c .before .cause2 .given .1))
+  returns-3 c = argument-refused (c .before .before .before .before .before .before .before .before .before .before .before .before .before .before .before .before .before .before .before .args .left) (c .before .before .before .before .before .before .before .before .before .before .before .before .before .before .before .loop .inv) _ (c .before .before .before .before .before .before .before .before .before .before .before .before .before .before .opening .ensures) (c .before .before .before .before .before .before .before .before .before .before .before .before .u2 .given .1) (expressed-not _ _ _ _ _ _ _ _ _ (c .before .before .before .before .before .before .before .before .parse-choice .ensures) (expressed-told (c .before .before .enum-told .given .1) (c .before .cause2 .ensures) (c .place .ensures)))
 
-  -- src/expressions.rt:283:33
-  enum-known-v : lts.Need-enum-known-v claims (list-at t) list.Post Inv-loop μ-loop
-  enum-known-v c = search needs
-
-  -- src/expressions.rt:287:21
   add-count : lts.Need-add-count claims (list-at t) list.Post Inv-loop μ-loop
   add-count c = omega (arith, listing-small expressionBranch (c .before .before .before .before .before .before .before .before .before .before .before .before .before .before .loop .inv) (c .before .before .before .before .before .before .before .before .before .before .before .before .before .before .before .before .before .before .pre .1 .small) (omega arith))
 
-  -- src/expressions.rt:271:5
   loop-less : lts.Need-loop-less claims (list-at t) list.Post Inv-loop μ-loop
-  loop-less c = argument-more (c .before .before .before .before .before .before .before .before .before .before .before .before .before .before .before .before .before .before .args .left) (c .before .before .before .before .before .before .before .before .before .before .before .before .before .before .loop .inv) _ (c .before .before .before .before .before .before .before .before .before .before .before .before .before .opening .ensures) (c .before .before .before .before .before .before .before .before .before .before .before .u2 .given .1) (expressed _ _ _ _ _ _ _ _ _ (c .before .before .before .before .before .before .before .parse-choice .ensures) (c .before .v .given .1)) .1
+  loop-less c = argument-more (c .before .before .before .before .before .before .before .before .before .before .before .before .before .before .before .before .before .before .args .left) (c .before .before .before .before .before .before .before .before .before .before .before .before .before .before .loop .inv) _ (c .before .before .before .before .before .before .before .before .before .before .before .before .before .opening .ensures) (c .before .before .before .before .before .before .before .before .before .before .before .u2 .given .1) (expressed _ _ _ _ _ _ _ _ _ (c .before .before .before .before .before .before .before .parse-choice .ensures) (c .before .argument .given .1)) .1
 
-  -- src/expressions.rt:271:5
   loop-again : lts.Need-loop-again claims (list-at t) list.Post Inv-loop μ-loop
-  loop-again c = argument-more (c .before .before .before .before .before .before .before .before .before .before .before .before .before .before .before .before .before .before .args .left) (c .before .before .before .before .before .before .before .before .before .before .before .before .before .before .loop .inv) _ (c .before .before .before .before .before .before .before .before .before .before .before .before .before .opening .ensures) (c .before .before .before .before .before .before .before .before .before .before .before .u2 .given .1) (expressed _ _ _ _ _ _ _ _ _ (c .before .before .before .before .before .before .before .parse-choice .ensures) (c .before .v .given .1)) .0
+  loop-again c = argument-more (c .before .before .before .before .before .before .before .before .before .before .before .before .before .before .before .before .before .before .args .left) (c .before .before .before .before .before .before .before .before .before .before .before .before .before .before .loop .inv) _ (c .before .before .before .before .before .before .before .before .before .before .before .before .before .opening .ensures) (c .before .before .before .before .before .before .before .before .before .before .before .u2 .given .1) (expressed _ _ _ _ _ _ _ _ _ (c .before .before .before .before .before .before .before .parse-choice .ensures) (c .before .argument .given .1)) .0
 
   pub met : {M : Type 1} → lts.Closed claims (list-at t) list.Post M
-  met = lts.spec claims (list-at t) list.Post Inv-loop μ-loop loop-holds opening-requires enum-known-u same-length same-length-2 returns enum-known-cause same-length-3 same-length-4 returns-2 enum-known-u-2 parse-choice-requires enum-known-cause-2 same-length-5 same-length-6 returns-3 enum-known-v add-count loop-less loop-again
+  met = lts.spec claims (list-at t) list.Post Inv-loop μ-loop loop-holds opening-requires enum-known-u same-length same-length-2 returns enum-known-cause same-length-3 same-length-4 returns-2 enum-known-u-2 parse-choice-requires enum-known-argument enum-told cause-requires place-requires same-length-5 same-length-6 returns-3 add-count loop-less loop-again

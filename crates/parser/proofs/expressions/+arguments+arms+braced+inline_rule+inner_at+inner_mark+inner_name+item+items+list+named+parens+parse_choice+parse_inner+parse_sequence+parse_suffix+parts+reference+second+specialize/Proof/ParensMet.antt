@@ -12,6 +12,7 @@ use Rattle.parser.proofs.ExpressionRules.{paren-refused, paren-empty, p
 use Rattle.parser.proofs.Shown.{yields-within, yields-least, shown-empty}
 use Rattle.parser.proofs.PartRules.{nodes-empty}
 use Rattle.parser.proofs.Yielded.{ready-start, yields-over, no-texts}
+use Rattle.tokens.proofs.Told.{arrived-told}
 use Rattle.parser.proofs.expressions.+arguments+arms+braced+inline_rule+inner_at+inner_mark+inner_name+item+items+list+named+parens+parse_choice+parse_inner+parse_sequence+parse_suffix+parts+reference+second+specialize.Proof.Falls.{parens-at, parse-choice-below}
 use Rattle.parser.proofs.expressions.parens.Reads as parens
 use Rattle.parser.proofs.expressions.+arguments+arms+braced+inline_rule+inner_at+inner_mark+inner_name+item+items+list+named+parens+parse_choice+parse_inner+parse_sequence+parse_suffix+parts+reference+second+specialize.Lts-parens as lts
@@ -20,74 +21,84 @@ use Rattle.tokens.proofs.eat_punctuation.Reads as eat-punctuation-reads
 use Rattle.tokens.proofs.expect_punctuation.Reads as expect-punctuation-reads
 use Rattle.parser.proofs.store.put_plain.Reads as put-plain-reads
 use Rattle.tokens.proofs.start.Reads as start-reads
+use Rattle.tokens.proofs.Arrived.cause.Reads as arrived-cause-reads
+use Rattle.tokens.proofs.Arrived.place.Reads as arrived-place-reads
 
 module _ (t : ℕ) where
   abbrev claims : lts.Claims
-  claims = (eat-punctuation-reads.Asked, eat-punctuation-reads.Learnt, start-reads.Asked, start-reads.Learnt, put-plain-reads.Asked, put-plain-reads.Learnt, parse-choice-below t, parse-choice.Post, expect-punctuation-reads.Asked, expect-punctuation-reads.Learnt)
+  claims = (eat-punctuation-reads.Asked, eat-punctuation-reads.Learnt, start-reads.Asked, start-reads.Learnt, put-plain-reads.Asked, put-plain-reads.Learnt, parse-choice-below t, parse-choice.Post, expect-punctuation-reads.Asked, expect-punctuation-reads.Learnt, arrived-cause-reads.Asked, arrived-cause-reads.Learnt, arrived-place-reads.Asked, arrived-place-reads.Learnt)
 
-  -- src/expressions.rt:165:11
   eat-punctuation-requires : lts.Need-eat-punctuation-requires claims (parens-at t) parens.Post
   eat-punctuation-requires c κs = search needs
 
-  -- src/expressions.rt:166:24
   enum-known-cause : lts.Need-enum-known-cause claims (parens-at t) parens.Post
   enum-known-cause c = search needs
 
-  -- src/expressions.rt:167:20
   enum-known-u : lts.Need-enum-known-u claims (parens-at t) parens.Post
   enum-known-u c = search needs
 
-  -- src/expressions.rt:168:54
   start-requires : lts.Need-start-requires claims (parens-at t) parens.Post
   start-requires c κs = search needs
 
-  -- src/expressions.rt:168:17
   put-plain-requires : lts.Need-put-plain-requires claims (parens-at t) parens.Post
   put-plain-requires c κs = put-plain-asks (c .before .before .before .before .before .before .before .before .before .pre .1 .0) (c .before .before .before .before .before .before .before .before .before .pre .1 .0) (c .start .ensures) (omega arith)
 
-  -- src/expressions.rt:169:38
   start-requires-2 : lts.Need-start-requires-2 claims (parens-at t) parens.Post
   start-requires-2 c κs = search needs
 
-  -- src/expressions.rt:171:73
   enum-told : lts.Need-enum-told claims (parens-at t) parens.Post
   enum-told c = search needs
 
-  -- src/expressions.rt:171:28
   parse-choice-requires : lts.Need-parse-choice-requires claims (parens-at t) parens.Post
   parse-choice-requires c κs = (omega (arith, c .before .before .before .before .before .before .before .before .pre .0), ready-step (c .before .before .before .before .before .before .before .before .pre .1 .0) (c .before .before .before .before .before .before .before .before .pre .1 .1))
 
-  -- src/expressions.rt:172:32
-  enum-known-cause-2 : lts.Need-enum-known-cause-2 claims (parens-at t) parens.Post
-  enum-known-cause-2 c = search needs
+  enum-known-inside : lts.Need-enum-known-inside claims (parens-at t) parens.Post
+  enum-known-inside c = search needs
 
-  -- src/expressions.rt:173:29
-  enum-known-v : lts.Need-enum-known-v claims (parens-at t) parens.Post
-  enum-known-v c = search needs
+  enum-told-2 : lts.Need-enum-told-2 claims (parens-at t) parens.Post
+  enum-told-2 c = search needs
 
-  -- src/expressions.rt:173:57
-  expect-punctuation-requires : lts.Need-expect-punctuation-requires claims (parens-at t) parens.Post
-  expect-punctuation-requires c κs = search needs
-
-  -- src/expressions.rt:174:34
-  enum-known-cause-3 : lts.Need-enum-known-cause-3 claims (parens-at t) parens.Post
-  enum-known-cause-3 c = search needs
-
-  -- src/expressions.rt:175:29
-  enum-known-u-2 : lts.Need-enum-known-u-2 claims (parens-at t) parens.Post
-  enum-known-u-2 c = search needs
-
-  -- src/expressions.rt:160:1
-  returns : lts.Need-returns claims (parens-at t) parens.Post
-  returns c = paren-refused _ _ _ (eat-not _ ")" _ _ (c .before .before .before .eat-punctuation .ensures) (c .before .cause .given .1))
-
-  -- src/expressions.rt:160:1
   same-length : lts.Need-same-length claims (parens-at t) parens.Post
   same-length c = search needs
 
-  -- src/expressions.rt:160:1
+  same-length-2 : lts.Need-same-length-2 claims (parens-at t) parens.Post
+  same-length-2 c = search needs
+
+  returns : lts.Need-returns claims (parens-at t) parens.Post
+  returns c = rw (c .enum-told2 .given .1) (paren-below _ _ _ (eat-no _ ")" _ _ (c .before .before .before .before .before .before .before .before .before .before .before .eat-punctuation .ensures) (c .before .before .before .before .before .before .before .before .before .enum-told .given .1)) (expressed-not _ _ _ _ _ _ _ _ _ (c .before .before .before .before .before .before .parse-choice .ensures) (c .enum-told2 .given .1)))
+
+  expect-punctuation-requires : lts.Need-expect-punctuation-requires claims (parens-at t) parens.Post
+  expect-punctuation-requires c κs = search needs
+
+  enum-known-closed : lts.Need-enum-known-closed claims (parens-at t) parens.Post
+  enum-known-closed c = search needs
+
+  enum-told-3 : lts.Need-enum-told-3 claims (parens-at t) parens.Post
+  enum-told-3 c = search needs
+
+  cause-requires : lts.Need-cause-requires claims (parens-at t) parens.Post
+  cause-requires c κs = search needs
+
+  place-requires : lts.Need-place-requires claims (parens-at t) parens.Post
+  place-requires c κs = search needs
+
+  same-length-3 : lts.Need-same-length-3 claims (parens-at t) parens.Post
+  same-length-3 c = search needs
+
+  same-length-4 : lts.Need-same-length-4 claims (parens-at t) parens.Post
+  same-length-4 c = search needs
+
   returns-2 : lts.Need-returns-2 claims (parens-at t) parens.Post
-  returns-2 c = let q = eat-onward _ ")" _ _ _ (omega arith) (c .before .before .before .before .before .before .before .before .before .before .before .before .before .pre .1 .1 .lies) (c .before .before .before .before .before .before .before .before .before .eat-punctuation .ensures) (c .before .before .before .before .before .before .before .u .given .1) in
+  returns-2 c = paren-close _ _ _ (eat-no _ ")" _ _ (c .before .before .before .before .before .before .before .before .before .before .before .before .before .before .before .before .before .eat-punctuation .ensures) (c .before .before .before .before .before .before .before .before .before .before .before .before .before .before .before .enum-told .given .1)) (expressed _ _ _ _ _ _ _ _ _ (c .before .before .before .before .before .before .before .before .before .before .before .before .parse-choice .ensures) (c .before .before .before .before .before .before .inside .given .1) .gives) (expect-not _ ")" _ _ (c .before .before .before .before .expect-punctuation .ensures) (arrived-told (c .before .before .enum-told3 .given .1) (c .before .cause2 .ensures) (c .place .ensures)))
+
+  returns-3 : lts.Need-returns-3 claims (parens-at t) parens.Post
+  returns-3 c = paren-refused _ _ _ (eat-not _ ")" _ _ (c .before .before .before .eat-punctuation .ensures) (c .before .cause .given .1))
+
+  same-length-5 : lts.Need-same-length-5 claims (parens-at t) parens.Post
+  same-length-5 c = search needs
+
+  returns-4 : lts.Need-returns-4 claims (parens-at t) parens.Post
+  returns-4 c = let q = eat-onward _ ")" _ _ _ (omega arith) (c .before .before .before .before .before .before .before .before .before .before .before .before .before .pre .1 .1 .lies) (c .before .before .before .before .before .before .before .before .before .eat-punctuation .ensures) (c .before .before .before .before .before .before .before .u .given .1) in
       let o = onward-then (c .before .before .before .before .before .before .before .before .before .before .before .before .before .pre .1 .1) q in
       let x = o .ahead in
       let z = no-texts in
@@ -96,43 +107,16 @@ module _ (t : ℕ) where
       (rw (c .before .before .before .before .start .ensures) at (c .before .before .before .put-plain .ensures) .stores (c .before .before .before .before .before .before .before .before .before .before .before .before .before .args .x) _) (nodes-empty (startIn (c .before .before .before .before .before .before .before .before .before .before .before .before .before .args .first))) (omega arith) (omega arith)
       (shown-empty _ _ _ (startIn (c .before .before .before .before .before .before .before .before .before .before .before .before .before .args .first)) (ready-start (c .before .before .before .before .before .before .before .before .before .before .before .before .before .pre .1 .0)))) (omega arith))
 
-  -- src/expressions.rt:160:1
-  same-length-2 : lts.Need-same-length-2 claims (parens-at t) parens.Post
-  same-length-2 c = search needs
-
-  -- src/expressions.rt:160:1
-  same-length-3 : lts.Need-same-length-3 claims (parens-at t) parens.Post
-  same-length-3 c = search needs
-
-  -- src/expressions.rt:160:1
-  returns-3 : lts.Need-returns-3 claims (parens-at t) parens.Post
-  returns-3 c = paren-below _ _ _ (eat-no _ ")" _ _ (c .before .before .before .before .before .before .before .before .before .before .before .before .eat-punctuation .ensures) (c .before .before .before .before .before .before .before .before .before .before .enum-told .given .1)) (expressed-not _ _ _ _ _ _ _ _ _ (c .before .before .before .before .before .before .before .parse-choice .ensures) (c .before .cause2 .given .1))
-
-  -- src/expressions.rt:160:1
-  same-length-4 : lts.Need-same-length-4 claims (parens-at t) parens.Post
-  same-length-4 c = search needs
-
-  -- src/expressions.rt:160:1
-  same-length-5 : lts.Need-same-length-5 claims (parens-at t) parens.Post
-  same-length-5 c = search needs
-
-  -- src/expressions.rt:160:1
-  returns-4 : lts.Need-returns-4 claims (parens-at t) parens.Post
-  returns-4 c = paren-close _ _ _ (eat-no _ ")" _ _ (c .before .before .before .before .before .before .before .before .before .before .before .before .before .before .before .before .eat-punctuation .ensures) (c .before .before .before .before .before .before .before .before .before .before .before .before .before .before .enum-told .given .1)) (expressed _ _ _ _ _ _ _ _ _ (c .before .before .before .before .before .before .before .before .before .before .before .parse-choice .ensures) (c .before .before .before .before .before .v .given .1) .gives) (expect-not _ ")" _ _ (c .before .before .before .expect-punctuation .ensures) (c .before .cause3 .given .1))
-
-  -- src/expressions.rt:160:1
   same-length-6 : lts.Need-same-length-6 claims (parens-at t) parens.Post
   same-length-6 c = search needs
 
-  -- src/expressions.rt:160:1
   same-length-7 : lts.Need-same-length-7 claims (parens-at t) parens.Post
   same-length-7 c = search needs
 
-  -- src/expressions.rt:160:1
   returns-5 : lts.Need-returns-5 claims (parens-at t) parens.Post
-  returns-5 c = let g = expressed _ _ _ _ _ _ _ _ _ (c .before .before .before .before .before .before .before .before .before .before .before .parse-choice .ensures) (c .before .before .before .before .before .v .given .1) in
-      let q = expect-onward _ ")" _ _ _ (omega arith) (g .onward .lies) (c .before .before .before .expect-punctuation .ensures) (c .before .u2 .given .1) in
-      yields-least 1 (yields-within g (c .before .before .before .before .before .before .before .before .before .before .before .before .before .before .before .before .before .before .before .before .pre .1 .1) q (paren-done _ _ _ (eat-no _ ")" _ _ (c .before .before .before .before .before .before .before .before .before .before .before .before .before .before .before .before .eat-punctuation .ensures) (c .before .before .before .before .before .before .before .before .before .before .before .before .before .before .enum-told .given .1)) (g .gives) (expect-at _ ")" _ _ (c .before .before .before .expect-punctuation .ensures) (c .before .u2 .given .1))) (omega arith)) (omega arith)
+  returns-5 c = let g = expressed _ _ _ _ _ _ _ _ _ (c .before .before .before .before .before .before .before .before .before .before .before .parse-choice .ensures) (c .before .before .before .before .before .inside .given .1) in
+      let q = expect-onward _ ")" _ _ _ (omega arith) (g .onward .lies) (c .before .before .before .expect-punctuation .ensures) (c .before .closed .given .1) in
+      yields-least 1 (yields-within g (c .before .before .before .before .before .before .before .before .before .before .before .before .before .before .before .before .before .before .before .before .pre .1 .1) q (paren-done _ _ _ (eat-no _ ")" _ _ (c .before .before .before .before .before .before .before .before .before .before .before .before .before .before .before .before .eat-punctuation .ensures) (c .before .before .before .before .before .before .before .before .before .before .before .before .before .before .enum-told .given .1)) (g .gives) (expect-at _ ")" _ _ (c .before .before .before .expect-punctuation .ensures) (c .before .closed .given .1))) (omega arith)) (omega arith)
 
   pub met : {M : Type 1} → lts.Closed claims (parens-at t) parens.Post M
-  met = lts.spec claims (parens-at t) parens.Post eat-punctuation-requires enum-known-cause enum-known-u start-requires put-plain-requires start-requires-2 enum-told parse-choice-requires enum-known-cause-2 enum-known-v expect-punctuation-requires enum-known-cause-3 enum-known-u-2 returns same-length returns-2 same-length-2 same-length-3 returns-3 same-length-4 same-length-5 returns-4 same-length-6 same-length-7 returns-5
+  met = lts.spec claims (parens-at t) parens.Post eat-punctuation-requires enum-known-cause enum-known-u start-requires put-plain-requires start-requires-2 enum-told parse-choice-requires enum-known-inside enum-told-2 same-length same-length-2 returns expect-punctuation-requires enum-known-closed enum-told-3 cause-requires place-requires same-length-3 same-length-4 returns-2 returns-3 same-length-5 returns-4 same-length-6 same-length-7 returns-5

@@ -8,6 +8,7 @@ use Rattle.parser.proofs.Took.{expressed, expressed-not, arms-read, arm
 use Rattle.parser.proofs.SequenceRules.{choice-deep, choice-sequence, choice-arms, choice-one, choice-empty, choice-done}
 use Rattle.parser.proofs.Yielded.{ready-start}
 use Rattle.parser.proofs.Itemizing.{arms-ready, choice-alone, choice-over, first-empty, choice-ready}
+use Rattle.parser.proofs.Told.{arms-told}
 use Rattle.parser.proofs.expressions.+arguments+arms+braced+inline_rule+inner_at+inner_mark+inner_name+item+items+list+named+parens+parse_choice+parse_inner+parse_sequence+parse_suffix+parts+reference+second+specialize.Proof.Falls.{falls-on, parse-choice-at, arms-below, parse-sequence-below}
 use Rattle.parser.proofs.expressions.parse_choice.Reads as parse-choice
 use Rattle.parser.proofs.expressions.+arguments+arms+braced+inline_rule+inner_at+inner_mark+inner_name+item+items+list+named+parens+parse_choice+parse_inner+parse_sequence+parse_suffix+parts+reference+second+specialize.Lts-parse_choice as lts
@@ -16,141 +17,117 @@ use Rattle.parser.proofs.expressions.parse_sequence.Reads as parse-sequ
 use Rattle.parser.proofs.parts.first_of.Reads as first-of-reads
 use Rattle.parser.proofs.store.put_plain.Reads as put-plain-reads
 use Rattle.tokens.proofs.start.Reads as start-reads
+use Rattle.parser.proofs.parts.ArmsRead.cause.Reads as arms-cause-reads
+use Rattle.parser.proofs.parts.ArmsRead.place.Reads as arms-place-reads
 
 module _ (t : ℕ) where
   abbrev claims : lts.Claims
-  claims = (start-reads.Asked, start-reads.Learnt, parse-sequence-below t, parse-sequence.Post, arms-below t, arms.Post, first-of-reads.Asked, first-of-reads.Learnt, put-plain-reads.Asked, put-plain-reads.Learnt)
+  claims = (start-reads.Asked, start-reads.Learnt, parse-sequence-below t, parse-sequence.Post, arms-below t, arms.Post, arms-cause-reads.Asked, arms-cause-reads.Learnt, arms-place-reads.Asked, arms-place-reads.Learnt, first-of-reads.Asked, first-of-reads.Learnt, put-plain-reads.Asked, put-plain-reads.Learnt)
 
-  -- src/expressions.rt:444:51
   start-requires : lts.Need-start-requires claims (parse-choice-at t) parse-choice.Post
   start-requires c κs = search needs
 
-  -- src/expressions.rt:444:9
   returns : lts.Need-returns claims (parse-choice-at t) parse-choice.Post
   returns c = choice-deep _ _ (c .before .if1 .taken) ∙ rw (start-of _ (c .before .before .before .before .before .args .token), c .start .ensures)
 
-  -- src/expressions.rt:446:45
   sub-parse-sequence : lts.Need-sub-parse-sequence claims (parse-choice-at t) parse-choice.Post
   sub-parse-sequence c = omega (arith, c .if1 .left)
 
-  -- src/expressions.rt:446:11
   parse-sequence-requires : lts.Need-parse-sequence-requires claims (parse-choice-at t) parse-choice.Post
   parse-sequence-requires c κs = (omega (arith, c .before .before .before .before .before .before .pre .0), c .before .before .before .before .before .before .pre .1)
 
-  -- src/expressions.rt:447:28
-  enum-known-cause : lts.Need-enum-known-cause claims (parse-choice-at t) parse-choice.Post
-  enum-known-cause c = search needs
+  enum-known-first : lts.Need-enum-known-first claims (parse-choice-at t) parse-choice.Post
+  enum-known-first c = search needs
 
-  -- src/expressions.rt:448:25
-  enum-known-u : lts.Need-enum-known-u claims (parse-choice-at t) parse-choice.Post
-  enum-known-u c = search needs
-
-  -- src/expressions.rt:448:66
-  sub-arms : lts.Need-sub-arms claims (parse-choice-at t) parse-choice.Post
-  sub-arms c = omega (arith, c .before .before .before .before .before .before .before .before .before .before .if1 .left)
-
-  -- src/expressions.rt:448:53
-  arms-requires : lts.Need-arms-requires claims (parse-choice-at t) parse-choice.Post
-  arms-requires c κs = let g = expressed _ _ _ _ _ _ _ _ _ (c .before .before .before .before .before .before .before .before .before .parse-sequence .ensures) (c .before .before .before .u .given .1) in (falls-on 20 19 (g .onward) (c .before .before .before .before .before .before .before .before .before .before .before .before .before .before .before .before .pre .0) (omega arith), arms-ready (c .before .before .before .before .before .before .before .before .before .before .before .before .before .before .before .before .pre .1) g)
-
-  -- src/expressions.rt:449:31
-  enum-known-cause-2 : lts.Need-enum-known-cause-2 claims (parse-choice-at t) parse-choice.Post
-  enum-known-cause-2 c = search needs
-
-  -- src/expressions.rt:450:28
-  enum-known-v : lts.Need-enum-known-v claims (parse-choice-at t) parse-choice.Post
-  enum-known-v c = search needs
-
-  -- src/expressions.rt:452:21
-  same-length : lts.Need-same-length claims (parse-choice-at t) parse-choice.Post
-  same-length c = search needs
-
-  -- src/expressions.rt:452:21
-  same-length-2 : lts.Need-same-length-2 claims (parse-choice-at t) parse-choice.Post
-  same-length-2 c = search needs
-
-  -- src/expressions.rt:452:21
-  returns-2 : lts.Need-returns-2 claims (parse-choice-at t) parse-choice.Post
-  returns-2 c = let g = expressed _ _ _ _ _ _ _ _ _ (c .before .before .before .before .before .before .before .before .before .before .before .before .before .before .before .before .before .before .parse-sequence .ensures) (c .before .before .before .before .before .before .before .before .before .before .before .before .u .given .1) in let y = arms-read _ _ _ _ _ _ _ (c .before .before .before .before .before .before .before .before .arms .ensures) (c .before .before .v .given .1) in choice-alone g y (choice-one _ _ (c .before .before .before .before .before .before .before .before .before .before .before .before .before .before .before .before .before .before .before .before .before .if1 .left) (g .gives) (y .lists .gives) (y .lists .counted ∙ c .if2 .taken)) (c .if2 .taken)
-
-  -- src/expressions.rt:454:23
-  first-of-requires : lts.Need-first-of-requires claims (parse-choice-at t) parse-choice.Post
-  first-of-requires c κs = search needs
-
-  -- src/expressions.rt:455:31
-  enum-known-at : lts.Need-enum-known-at claims (parse-choice-at t) parse-choice.Post
-  enum-known-at c = search needs
-
-  -- src/expressions.rt:457:50
   enum-told : lts.Need-enum-told claims (parse-choice-at t) parse-choice.Post
   enum-told c = search needs
 
-  -- src/expressions.rt:457:66
-  start-requires-2 : lts.Need-start-requires-2 claims (parse-choice-at t) parse-choice.Post
-  start-requires-2 c κs = search needs
+  same-length : lts.Need-same-length claims (parse-choice-at t) parse-choice.Post
+  same-length c = search needs
 
-  -- src/expressions.rt:457:90
-  add-put-plain : lts.Need-add-put-plain claims (parse-choice-at t) parse-choice.Post
-  add-put-plain c = let k = choice-ready (expressed _ _ _ _ _ _ _ _ _ (c .before .before .before .before .before .before .before .before .before .before .before .before .before .before .before .before .before .before .before .before .before .before .before .parse-sequence .ensures) (c .before .before .before .before .before .before .before .before .before .before .before .before .before .before .before .before .before .u .given .1)) (arms-read _ _ _ _ _ _ _ (c .before .before .before .before .before .before .before .before .before .before .before .before .before .arms .ensures) (c .before .before .before .before .before .before .before .v .given .1)) (c .before .before .before .before .before .before .before .before .before .before .before .before .before .before .before .before .before .before .before .before .before .before .before .before .before .before .before .before .before .before .pre .1) refl refl in omega arith
+  same-length-2 : lts.Need-same-length-2 claims (parse-choice-at t) parse-choice.Post
+  same-length-2 c = search needs
 
-  -- src/expressions.rt:457:29
-  put-plain-requires : lts.Need-put-plain-requires claims (parse-choice-at t) parse-choice.Post
-  put-plain-requires c κs = let k = choice-ready (expressed _ _ _ _ _ _ _ _ _ (c .before .before .before .before .before .before .before .before .before .before .before .before .before .before .before .before .before .before .before .before .before .before .before .parse-sequence .ensures) (c .before .before .before .before .before .before .before .before .before .before .before .before .before .before .before .before .before .u .given .1)) (arms-read _ _ _ _ _ _ _ (c .before .before .before .before .before .before .before .before .before .before .before .before .before .arms .ensures) (c .before .before .before .before .before .before .before .v .given .1)) (c .before .before .before .before .before .before .before .before .before .before .before .before .before .before .before .before .before .before .before .before .before .before .before .before .before .before .before .before .before .before .pre .1) refl refl in let z = ready-start (c .before .before .before .before .before .before .before .before .before .before .before .before .before .before .before .before .before .before .before .before .before .before .before .before .before .before .before .before .before .before .pre .1) in let w = c .before .before .before .before .before .before .before .before .before .before .before .before .before .before .before .before .before .before .before .before .before .before .before .before .before .before .before .before .before .before .pre .1 .small in (omega arith, rw (c .start2 .ensures) (omega arith), omega arith)
+  returns-2 : lts.Need-returns-2 claims (parse-choice-at t) parse-choice.Post
+  returns-2 c = rw (c .enum-told .given .1) (choice-sequence _ _ (c .before .before .before .before .before .before .before .before .before .if1 .left) (expressed-not _ _ _ _ _ _ _ _ _ (c .before .before .before .before .before .before .parse-sequence .ensures) (c .enum-told .given .1)))
 
-  -- src/expressions.rt:458:50
-  start-requires-3 : lts.Need-start-requires-3 claims (parse-choice-at t) parse-choice.Post
-  start-requires-3 c κs = search needs
+  sub-arms : lts.Need-sub-arms claims (parse-choice-at t) parse-choice.Post
+  sub-arms c = omega (arith, c .before .before .before .before .before .before .before .before .before .before .if1 .left)
 
-  -- src/expressions.rt:438:1
+  arms-requires : lts.Need-arms-requires claims (parse-choice-at t) parse-choice.Post
+  arms-requires c κs = let g = expressed _ _ _ _ _ _ _ _ _ (c .before .before .before .before .before .before .before .before .before .parse-sequence .ensures) (c .before .before .before .first .given .1) in (falls-on 20 19 (g .onward) (c .before .before .before .before .before .before .before .before .before .before .before .before .before .before .before .before .pre .0) (omega arith), arms-ready (c .before .before .before .before .before .before .before .before .before .before .before .before .before .before .before .before .pre .1) g)
+
+  enum-known-others : lts.Need-enum-known-others claims (parse-choice-at t) parse-choice.Post
+  enum-known-others c = search needs
+
+  enum-told-2 : lts.Need-enum-told-2 claims (parse-choice-at t) parse-choice.Post
+  enum-told-2 c = search needs
+
+  cause-requires : lts.Need-cause-requires claims (parse-choice-at t) parse-choice.Post
+  cause-requires c κs = search needs
+
+  place-requires : lts.Need-place-requires claims (parse-choice-at t) parse-choice.Post
+  place-requires c κs = search needs
+
   same-length-3 : lts.Need-same-length-3 claims (parse-choice-at t) parse-choice.Post
   same-length-3 c = search needs
 
-  -- src/expressions.rt:438:1
   same-length-4 : lts.Need-same-length-4 claims (parse-choice-at t) parse-choice.Post
   same-length-4 c = search needs
 
-  -- src/expressions.rt:438:1
   returns-3 : lts.Need-returns-3 claims (parse-choice-at t) parse-choice.Post
-  returns-3 c = choice-sequence _ _ (c .before .before .before .before .before .before .before .before .before .before .if1 .left) (expressed-not _ _ _ _ _ _ _ _ _ (c .before .before .before .before .before .before .before .parse-sequence .ensures) (c .before .cause .given .1))
+  returns-3 c = choice-arms _ _ (c .before .before .before .before .before .before .before .before .before .before .before .before .before .before .before .before .before .before .before .before .before .if1 .left) (expressed _ _ _ _ _ _ _ _ _ (c .before .before .before .before .before .before .before .before .before .before .before .before .before .before .before .before .before .before .parse-sequence .ensures) (c .before .before .before .before .before .before .before .before .before .before .before .before .first .given .1) .gives) (arms-not _ _ _ _ _ _ _ (c .before .before .before .before .before .before .before .before .arms .ensures) (arms-told (c .before .before .enum-told2 .given .1) (c .before .cause .ensures) (c .place .ensures)))
 
-  -- src/expressions.rt:438:1
   same-length-5 : lts.Need-same-length-5 claims (parse-choice-at t) parse-choice.Post
   same-length-5 c = search needs
 
-  -- src/expressions.rt:438:1
   same-length-6 : lts.Need-same-length-6 claims (parse-choice-at t) parse-choice.Post
   same-length-6 c = search needs
 
-  -- src/expressions.rt:438:1
   returns-4 : lts.Need-returns-4 claims (parse-choice-at t) parse-choice.Post
-  returns-4 c = choice-arms _ _ (c .before .before .before .before .before .before .before .before .before .before .before .before .before .before .before .before .before .before .before .before .if1 .left) (expressed _ _ _ _ _ _ _ _ _ (c .before .before .before .before .before .before .before .before .before .before .before .before .before .before .before .before .before .parse-sequence .ensures) (c .before .before .before .before .before .before .before .before .before .before .before .u .given .1) .gives) (arms-not _ _ _ _ _ _ _ (c .before .before .before .before .before .before .before .arms .ensures) (c .before .cause2 .given .1))
+  returns-4 c = let g = expressed _ _ _ _ _ _ _ _ _ (c .before .before .before .before .before .before .before .before .before .before .before .before .before .before .before .before .before .before .parse-sequence .ensures) (c .before .before .before .before .before .before .before .before .before .before .before .before .first .given .1) in let y = arms-read _ _ _ _ _ _ _ (c .before .before .before .before .before .before .before .before .arms .ensures) (c .before .before .others .given .1) in choice-alone g y (choice-one _ _ (c .before .before .before .before .before .before .before .before .before .before .before .before .before .before .before .before .before .before .before .before .before .if1 .left) (g .gives) (y .lists .gives) (y .lists .counted ∙ c .if2 .taken)) (c .if2 .taken)
 
-  -- src/expressions.rt:438:1
+  first-of-requires : lts.Need-first-of-requires claims (parse-choice-at t) parse-choice.Post
+  first-of-requires c κs = search needs
+
+  enum-known-at : lts.Need-enum-known-at claims (parse-choice-at t) parse-choice.Post
+  enum-known-at c = search needs
+
+  enum-told-3 : lts.Need-enum-told-3 claims (parse-choice-at t) parse-choice.Post
+  enum-told-3 c = search needs
+
+  start-requires-2 : lts.Need-start-requires-2 claims (parse-choice-at t) parse-choice.Post
+  start-requires-2 c κs = search needs
+
+  add-put-plain : lts.Need-add-put-plain claims (parse-choice-at t) parse-choice.Post
+  add-put-plain c = let k = choice-ready (expressed _ _ _ _ _ _ _ _ _ (c .before .before .before .before .before .before .before .before .before .before .before .before .before .before .before .before .before .before .before .before .before .before .before .parse-sequence .ensures) (c .before .before .before .before .before .before .before .before .before .before .before .before .before .before .before .before .before .first .given .1)) (arms-read _ _ _ _ _ _ _ (c .before .before .before .before .before .before .before .before .before .before .before .before .before .arms .ensures) (c .before .before .before .before .before .before .before .others .given .1)) (c .before .before .before .before .before .before .before .before .before .before .before .before .before .before .before .before .before .before .before .before .before .before .before .before .before .before .before .before .before .before .pre .1) refl refl in omega arith
+
+  put-plain-requires : lts.Need-put-plain-requires claims (parse-choice-at t) parse-choice.Post
+  put-plain-requires c κs = let k = choice-ready (expressed _ _ _ _ _ _ _ _ _ (c .before .before .before .before .before .before .before .before .before .before .before .before .before .before .before .before .before .before .before .before .before .before .before .parse-sequence .ensures) (c .before .before .before .before .before .before .before .before .before .before .before .before .before .before .before .before .before .first .given .1)) (arms-read _ _ _ _ _ _ _ (c .before .before .before .before .before .before .before .before .before .before .before .before .before .arms .ensures) (c .before .before .before .before .before .before .before .others .given .1)) (c .before .before .before .before .before .before .before .before .before .before .before .before .before .before .before .before .before .before .before .before .before .before .before .before .before .before .before .before .before .before .pre .1) refl refl in let z = ready-start (c .before .before .before .before .before .before .before .before .before .before .before .before .before .before .before .before .before .before .before .before .before .before .before .before .before .before .before .before .before .before .pre .1) in let w = c .before .before .before .before .before .before .before .before .before .before .before .before .before .before .before .before .before .before .before .before .before .before .before .before .before .before .before .before .before .before .pre .1 .small in (omega arith, rw (c .start2 .ensures) (omega arith), omega arith)
+
+  start-requires-3 : lts.Need-start-requires-3 claims (parse-choice-at t) parse-choice.Post
+  start-requires-3 c κs = search needs
+
   same-length-7 : lts.Need-same-length-7 claims (parse-choice-at t) parse-choice.Post
   same-length-7 c = search needs
 
-  -- src/expressions.rt:438:1
   same-length-8 : lts.Need-same-length-8 claims (parse-choice-at t) parse-choice.Post
   same-length-8 c = search needs
 
-  -- src/expressions.rt:438:1
   returns-5 : lts.Need-returns-5 claims (parse-choice-at t) parse-choice.Post
-  returns-5 c = let g = expressed _ _ _ _ _ _ _ _ _ (c .before .before .before .before .before .before .before .before .before .before .before .before .before .before .before .before .before .before .before .before .before .before .parse-sequence .ensures) (c .before .before .before .before .before .before .before .before .before .before .before .before .before .before .before .before .u .given .1) in let y = arms-read _ _ _ _ _ _ _ (c .before .before .before .before .before .before .before .before .before .before .before .before .arms .ensures) (c .before .before .before .before .before .before .v .given .1) in choice-empty _ _ (c .before .before .before .before .before .before .before .before .before .before .before .before .before .before .before .before .before .before .before .before .before .before .before .before .before .if1 .left) (g .gives) (y .lists .gives) (λ z. c .before .before .before .before .if2 .left (sym (y .lists .counted) ∙ z)) (first-empty g y ∙ rw (← c .before .before .before .first-of .ensures, c .before .at .given .1))
+  returns-5 c = let g = expressed _ _ _ _ _ _ _ _ _ (c .before .before .before .before .before .before .before .before .before .before .before .before .before .before .before .before .before .before .before .before .before .before .parse-sequence .ensures) (c .before .before .before .before .before .before .before .before .before .before .before .before .before .before .before .before .first .given .1) in let y = arms-read _ _ _ _ _ _ _ (c .before .before .before .before .before .before .before .before .before .before .before .before .arms .ensures) (c .before .before .before .before .before .before .others .given .1) in choice-empty _ _ (c .before .before .before .before .before .before .before .before .before .before .before .before .before .before .before .before .before .before .before .before .before .before .before .before .before .if1 .left) (g .gives) (y .lists .gives) (λ z. c .before .before .before .before .if2 .left (sym (y .lists .counted) ∙ z)) (first-empty g y ∙ rw (← c .before .before .before .first-of .ensures, c .before .at .given .1))
 
-  -- src/expressions.rt:438:1
   same-length-10 : lts.Need-same-length-10 claims (parse-choice-at t) parse-choice.Post
   same-length-10 c = search needs
 
-  -- src/expressions.rt:438:1
   returns-6 : lts.Need-returns-6 claims (parse-choice-at t) parse-choice.Post
-  returns-6 c = let g = expressed _ _ _ _ _ _ _ _ _ (c .before .before .before .before .before .before .before .before .before .before .before .before .before .before .before .before .before .before .before .before .before .before .before .before .before .before .before .parse-sequence .ensures) (c .before .before .before .before .before .before .before .before .before .before .before .before .before .before .before .before .before .before .before .before .before .u .given .1) in
-      let y = arms-read _ _ _ _ _ _ _ (c .before .before .before .before .before .before .before .before .before .before .before .before .before .before .before .before .before .arms .ensures) (c .before .before .before .before .before .before .before .before .before .before .before .v .given .1) in
-      rw (c .start3 .ensures) (choice-over g y _ (rw (start-of _ (c .before .before .before .before .before .before .before .before .before .before .before .before .before .before .before .before .before .before .before .before .before .before .before .before .before .before .before .before .before .before .before .before .before .before .args .token)) at (choice-done _ _ (c .before .before .before .before .before .before .before .before .before .before .before .before .before .before .before .before .before .before .before .before .before .before .before .before .before .before .before .before .before .before .if1 .left) (g .gives) (y .lists .gives) (λ z. c .before .before .before .before .before .before .before .before .before .if2 .left (sym (y .lists .counted) ∙ z)) (first-empty g y ∙ rw (← c .before .before .before .before .before .before .before .before .first-of .ensures, c .before .before .before .before .before .before .enum-told .given .1))))
+  returns-6 c = let g = expressed _ _ _ _ _ _ _ _ _ (c .before .before .before .before .before .before .before .before .before .before .before .before .before .before .before .before .before .before .before .before .before .before .before .before .before .before .before .parse-sequence .ensures) (c .before .before .before .before .before .before .before .before .before .before .before .before .before .before .before .before .before .before .before .before .before .first .given .1) in
+      let y = arms-read _ _ _ _ _ _ _ (c .before .before .before .before .before .before .before .before .before .before .before .before .before .before .before .before .before .arms .ensures) (c .before .before .before .before .before .before .before .before .before .before .before .others .given .1) in
+      rw (c .start3 .ensures) (choice-over g y _ (rw (start-of _ (c .before .before .before .before .before .before .before .before .before .before .before .before .before .before .before .before .before .before .before .before .before .before .before .before .before .before .before .before .before .before .before .before .before .before .args .token)) at (choice-done _ _ (c .before .before .before .before .before .before .before .before .before .before .before .before .before .before .before .before .before .before .before .before .before .before .before .before .before .before .before .before .before .before .if1 .left) (g .gives) (y .lists .gives) (λ z. c .before .before .before .before .before .before .before .before .before .if2 .left (sym (y .lists .counted) ∙ z)) (first-empty g y ∙ rw (← c .before .before .before .before .before .before .before .before .first-of .ensures, c .before .before .before .before .before .before .enum-told3 .given .1))))
       (ready-start (c .before .before .before .before .before .before .before .before .before .before .before .before .before .before .before .before .before .before .before .before .before .before .before .before .before .before .before .before .before .before .before .before .before .before .pre .1)) (rw (c .before .before .before .before .start2 .ensures) at (c .before .before .before .put-plain .ensures) .stores _ _))
 
-  -- src/expressions.rt:438:1
   same-length-9 : lts.Need-same-length-9 claims (parse-choice-at t) parse-choice.Post
   same-length-9 c = omega (arith, returns-6 c .lays .stores .same-words)
 
   pub met : {M : Type 1} → lts.Closed claims (parse-choice-at t) parse-choice.Post M
-  met = lts.spec claims (parse-choice-at t) parse-choice.Post start-requires returns sub-parse-sequence parse-sequence-requires enum-known-cause enum-known-u sub-arms arms-requires enum-known-cause-2 enum-known-v same-length same-length-2 returns-2 first-of-requires enum-known-at enum-told start-requires-2 add-put-plain put-plain-requires start-requires-3 same-length-3 same-length-4 returns-3 same-length-5 same-length-6 returns-4 same-length-7 same-length-8 returns-5 same-length-9 same-length-10 returns-6
+  met = lts.spec claims (parse-choice-at t) parse-choice.Post start-requires returns sub-parse-sequence parse-sequence-requires enum-known-first enum-told same-length same-length-2 returns-2 sub-arms arms-requires enum-known-others enum-told-2 cause-requires place-requires same-length-3 same-length-4 returns-3 same-length-5 same-length-6 returns-4 first-of-requires enum-known-at enum-told-3 start-requires-2 add-put-plain put-plain-requires start-requires-3 same-length-7 same-length-8 returns-5 same-length-9 same-length-10 returns-6

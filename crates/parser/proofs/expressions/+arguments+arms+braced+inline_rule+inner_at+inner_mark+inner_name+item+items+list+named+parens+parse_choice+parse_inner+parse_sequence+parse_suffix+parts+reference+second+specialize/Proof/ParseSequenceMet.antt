@@ -9,6 +9,7 @@ use Rattle.parser.proofs.Took.{items-read, items-not}
 use Rattle.parser.proofs.SequenceRules.{sequence-refused, sequence-done}
 use Rattle.parser.proofs.Yielded.{ready-start, sequence-alone, sequence-over}
 use Rattle.parser.proofs.Marks.{items-small}
+use Rattle.parser.proofs.Told.{items-told}
 use Rattle.parser.proofs.expressions.+arguments+arms+braced+inline_rule+inner_at+inner_mark+inner_name+item+items+list+named+parens+parse_choice+parse_inner+parse_sequence+parse_suffix+parts+reference+second+specialize.Proof.Falls.{parse-sequence-at, items-below}
 use Rattle.parser.proofs.expressions.parse_sequence.Reads as parse-sequence
 use Rattle.parser.proofs.expressions.+arguments+arms+braced+inline_rule+inner_at+inner_mark+inner_name+item+items+list+named+parens+parse_choice+parse_inner+parse_sequence+parse_suffix+parts+reference+second+specialize.Lts-parse_sequence as lts
@@ -16,79 +17,70 @@ use Rattle.parser.proofs.expressions.items.Reads as items
 use Rattle.parser.proofs.store.put_plain.Reads as put-plain-reads
 use Rattle.parser.proofs.parts.sequence_shape.Reads as sequence-shape-reads
 use Rattle.tokens.proofs.start.Reads as start-reads
+use Rattle.parser.proofs.parts.ItemsRead.cause.Reads as items-cause-reads
+use Rattle.parser.proofs.parts.ItemsRead.place.Reads as items-place-reads
 
 module _ (t : ℕ) where
   abbrev claims : lts.Claims
-  claims = (items-below t, items.Post, start-reads.Asked, start-reads.Learnt, put-plain-reads.Asked, put-plain-reads.Learnt, sequence-shape-reads.Asked, sequence-shape-reads.Learnt)
+  claims = (items-below t, items.Post, items-cause-reads.Asked, items-cause-reads.Learnt, items-place-reads.Asked, items-place-reads.Learnt, start-reads.Asked, start-reads.Learnt, put-plain-reads.Asked, put-plain-reads.Learnt, sequence-shape-reads.Asked, sequence-shape-reads.Learnt)
 
-  -- src/expressions.rt:388:11
   items-requires : lts.Need-items-requires claims (parse-sequence-at t) parse-sequence.Post
   items-requires c κs = (omega (arith, c .before .before .before .before .before .pre .0), c .before .before .before .before .before .pre .1)
 
-  -- src/expressions.rt:389:28
-  enum-known-cause : lts.Need-enum-known-cause claims (parse-sequence-at t) parse-sequence.Post
-  enum-known-cause c = search needs
+  enum-known-read : lts.Need-enum-known-read claims (parse-sequence-at t) parse-sequence.Post
+  enum-known-read c = search needs
 
-  -- src/expressions.rt:390:25
-  enum-known-u : lts.Need-enum-known-u claims (parse-sequence-at t) parse-sequence.Post
-  enum-known-u c = search needs
+  enum-told : lts.Need-enum-told claims (parse-sequence-at t) parse-sequence.Post
+  enum-told c = search needs
 
-  -- src/expressions.rt:393:21
+  cause-requires : lts.Need-cause-requires claims (parse-sequence-at t) parse-sequence.Post
+  cause-requires c κs = search needs
+
+  place-requires : lts.Need-place-requires claims (parse-sequence-at t) parse-sequence.Post
+  place-requires c κs = search needs
+
   same-length : lts.Need-same-length claims (parse-sequence-at t) parse-sequence.Post
   same-length c = search needs
 
-  -- src/expressions.rt:393:21
   same-length-2 : lts.Need-same-length-2 claims (parse-sequence-at t) parse-sequence.Post
   same-length-2 c = search needs
 
-  -- src/expressions.rt:393:21
   returns : lts.Need-returns claims (parse-sequence-at t) parse-sequence.Post
-  returns c = let y = items-read _ _ _ _ _ _ _ (c .before .before .before .before .before .before .before .before .before .items .ensures) (c .before .before .before .u .given .1) in sequence-alone y _ (sequence-done _ _ (y .lists .gives)) (c .before .if1 .taken) (c .if2 .taken)
+  returns c = sequence-refused _ _ (items-not _ _ _ _ _ _ _ (c .before .before .before .before .before .before .before .before .items .ensures) (items-told (c .before .before .enum-told .given .1) (c .before .cause .ensures) (c .place .ensures)))
 
-  -- src/expressions.rt:396:54
-  start-requires : lts.Need-start-requires claims (parse-sequence-at t) parse-sequence.Post
-  start-requires c κs = search needs
-
-  -- src/expressions.rt:396:78
-  add-put-plain : lts.Need-add-put-plain claims (parse-sequence-at t) parse-sequence.Post
-  add-put-plain c = let y = items-read _ _ _ _ _ _ _ (c .before .before .before .before .before .before .before .before .before .before .items .ensures) (c .before .before .before .before .u .given .1) in let k = items-small y (c .before .before .before .before .before .before .before .before .before .before .before .before .before .before .before .before .pre .1 .small) in omega arith
-
-  -- src/expressions.rt:396:17
-  put-plain-requires : lts.Need-put-plain-requires claims (parse-sequence-at t) parse-sequence.Post
-  put-plain-requires c κs = let y = items-read _ _ _ _ _ _ _ (c .before .before .before .before .before .before .before .before .before .before .items .ensures) (c .before .before .before .before .u .given .1) in put-plain-asks (c .before .before .before .before .before .before .before .before .before .before .before .before .before .before .before .before .pre .1) (ready-on (c .before .before .before .before .before .before .before .before .before .before .before .before .before .before .before .before .pre .1) (y .lists .onward) (y .lists .lays)) (c .start .ensures) (items-small y (c .before .before .before .before .before .before .before .before .before .before .before .before .before .before .before .before .pre .1 .small))
-
-  -- src/expressions.rt:397:38
-  start-requires-2 : lts.Need-start-requires-2 claims (parse-sequence-at t) parse-sequence.Post
-  start-requires-2 c κs = search needs
-
-  -- src/expressions.rt:397:59
-  sequence-shape-requires : lts.Need-sequence-shape-requires claims (parse-sequence-at t) parse-sequence.Post
-  sequence-shape-requires c κs = search needs
-
-  -- src/expressions.rt:383:1
   same-length-3 : lts.Need-same-length-3 claims (parse-sequence-at t) parse-sequence.Post
   same-length-3 c = search needs
 
-  -- src/expressions.rt:383:1
   same-length-4 : lts.Need-same-length-4 claims (parse-sequence-at t) parse-sequence.Post
   same-length-4 c = search needs
 
-  -- src/expressions.rt:383:1
   returns-2 : lts.Need-returns-2 claims (parse-sequence-at t) parse-sequence.Post
-  returns-2 c = sequence-refused _ _ (items-not _ _ _ _ _ _ _ (c .before .before .before .before .before .before .before .items .ensures) (c .before .cause .given .1))
+  returns-2 c = let y = items-read _ _ _ _ _ _ _ (c .before .before .before .before .before .before .before .before .before .items .ensures) (c .before .before .before .read .given .1) in sequence-alone y _ (sequence-done _ _ (y .lists .gives)) (c .before .if1 .taken) (c .if2 .taken)
 
-  -- src/expressions.rt:383:1
+  start-requires : lts.Need-start-requires claims (parse-sequence-at t) parse-sequence.Post
+  start-requires c κs = search needs
+
+  add-put-plain : lts.Need-add-put-plain claims (parse-sequence-at t) parse-sequence.Post
+  add-put-plain c = let y = items-read _ _ _ _ _ _ _ (c .before .before .before .before .before .before .before .before .before .before .items .ensures) (c .before .before .before .before .read .given .1) in let k = items-small y (c .before .before .before .before .before .before .before .before .before .before .before .before .before .before .before .before .pre .1 .small) in omega arith
+
+  put-plain-requires : lts.Need-put-plain-requires claims (parse-sequence-at t) parse-sequence.Post
+  put-plain-requires c κs = let y = items-read _ _ _ _ _ _ _ (c .before .before .before .before .before .before .before .before .before .before .items .ensures) (c .before .before .before .before .read .given .1) in put-plain-asks (c .before .before .before .before .before .before .before .before .before .before .before .before .before .before .before .before .pre .1) (ready-on (c .before .before .before .before .before .before .before .before .before .before .before .before .before .before .before .before .pre .1) (y .lists .onward) (y .lists .lays)) (c .start .ensures) (items-small y (c .before .before .before .before .before .before .before .before .before .before .before .before .before .before .before .before .pre .1 .small))
+
+  start-requires-2 : lts.Need-start-requires-2 claims (parse-sequence-at t) parse-sequence.Post
+  start-requires-2 c κs = search needs
+
+  sequence-shape-requires : lts.Need-sequence-shape-requires claims (parse-sequence-at t) parse-sequence.Post
+  sequence-shape-requires c κs = search needs
+
   same-length-5 : lts.Need-same-length-5 claims (parse-sequence-at t) parse-sequence.Post
   same-length-5 c = search needs
 
-  -- src/expressions.rt:383:1
   same-length-6 : lts.Need-same-length-6 claims (parse-sequence-at t) parse-sequence.Post
   same-length-6 c = search needs
 
-  -- src/expressions.rt:383:1
   returns-3 : lts.Need-returns-3 claims (parse-sequence-at t) parse-sequence.Post
-  returns-3 c = let y = items-read _ _ _ _ _ _ _ (c .before .before .before .before .before .before .before .before .before .before .before .before .before .before .before .items .ensures) (c .before .before .before .before .before .before .before .before .before .u .given .1) in
+  returns-3 c = let y = items-read _ _ _ _ _ _ _ (c .before .before .before .before .before .before .before .before .before .before .before .before .before .before .before .items .ensures) (c .before .before .before .before .before .before .before .before .before .read .given .1) in
       rw (c .sequence-shape .ensures, c .before .start2 .ensures) (sequence-over y _ (rw (start-of _ (c .before .before .before .before .before .before .before .before .before .before .before .before .before .before .before .before .before .before .before .before .before .args .token)) at (sequence-done _ _ (y .lists .gives))) (λ i j. elim (c .before .before .before .before .before .before .before .if1 .came) [ inl x ↦ x .1 .left j | inr y ↦ y .left i ]) (ready-start (c .before .before .before .before .before .before .before .before .before .before .before .before .before .before .before .before .before .before .before .before .before .pre .1)) (rw (c .before .before .before .before .before .start .ensures) at (c .before .before .before .before .put-plain .ensures) .stores _ _))
 
   pub met : {M : Type 1} → lts.Closed claims (parse-sequence-at t) parse-sequence.Post M
-  met = lts.spec claims (parse-sequence-at t) parse-sequence.Post items-requires enum-known-cause enum-known-u same-length same-length-2 returns start-requires add-put-plain put-plain-requires start-requires-2 sequence-shape-requires same-length-3 same-length-4 returns-2 same-length-5 same-length-6 returns-3
+  met = lts.spec claims (parse-sequence-at t) parse-sequence.Post items-requires enum-known-read enum-told cause-requires place-requires same-length same-length-2 returns same-length-3 same-length-4 returns-2 start-requires add-put-plain put-plain-requires start-requires-2 sequence-shape-requires same-length-5 same-length-6 returns-3

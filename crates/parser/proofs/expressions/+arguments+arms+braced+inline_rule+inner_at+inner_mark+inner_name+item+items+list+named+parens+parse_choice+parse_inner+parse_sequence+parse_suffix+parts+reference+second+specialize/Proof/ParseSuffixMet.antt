@@ -8,6 +8,7 @@ use Rattle.parser.proofs.Took.{expressed, expressed-not}
 use Rattle.parser.proofs.SequenceRules.{suffix-inner, suffix-repeats, suffix-done}
 use Rattle.tokens.proofs.Stream.{start-of}
 use Rattle.parser.proofs.Yielded.{ready-start, stack-low, small-stack, suffix-plain, suffix-repeated}
+use Rattle.parser.proofs.Told.{listed-told}
 use Rattle.parser.proofs.expressions.+arguments+arms+braced+inline_rule+inner_at+inner_mark+inner_name+item+items+list+named+parens+parse_choice+parse_inner+parse_sequence+parse_suffix+parts+reference+second+specialize.Proof.Falls.{parse-suffix-at, parse-inner-below}
 use Rattle.parser.proofs.expressions.parse_suffix.Reads as parse-suffix
 use Rattle.parser.proofs.expressions.+arguments+arms+braced+inline_rule+inner_at+inner_mark+inner_name+item+items+list+named+parens+parse_choice+parse_inner+parse_sequence+parse_suffix+parts+reference+second+specialize.Lts-parse_suffix as lts
@@ -15,107 +16,92 @@ use Rattle.parser.proofs.expressions.parse_inner.Reads as parse-inner
 use Rattle.parser.proofs.parts.parse_repeats.Reads as parse-repeats-reads
 use Rattle.parser.proofs.parts.stack.Reads as stack-reads
 use Rattle.tokens.proofs.start.Reads as start-reads
+use Rattle.parser.proofs.props.Listed.cause.Reads as listed-cause-reads
+use Rattle.parser.proofs.props.Listed.place.Reads as listed-place-reads
 
 module _ (t : ℕ) where
   abbrev claims : lts.Claims
-  claims = (parse-inner-below t, parse-inner.Post, start-reads.Asked, start-reads.Learnt, stack-reads.Asked, stack-reads.Learnt, parse-repeats-reads.Asked, parse-repeats-reads.Learnt)
+  claims = (parse-inner-below t, parse-inner.Post, start-reads.Asked, start-reads.Learnt, stack-reads.Asked, stack-reads.Learnt, parse-repeats-reads.Asked, parse-repeats-reads.Learnt, listed-cause-reads.Asked, listed-cause-reads.Learnt, listed-place-reads.Asked, listed-place-reads.Learnt)
 
-  -- src/expressions.rt:311:11
   parse-inner-requires : lts.Need-parse-inner-requires claims (parse-suffix-at t) parse-suffix.Post
   parse-inner-requires c κs = (omega (arith, c .before .before .before .before .before .pre .0), c .before .before .before .before .before .pre .1)
 
-  -- src/expressions.rt:312:28
-  enum-known-cause : lts.Need-enum-known-cause claims (parse-suffix-at t) parse-suffix.Post
-  enum-known-cause c = search needs
+  enum-known-inner : lts.Need-enum-known-inner claims (parse-suffix-at t) parse-suffix.Post
+  enum-known-inner c = search needs
 
-  -- src/expressions.rt:313:25
-  enum-known-u : lts.Need-enum-known-u claims (parse-suffix-at t) parse-suffix.Post
-  enum-known-u c = search needs
+  enum-told : lts.Need-enum-told claims (parse-suffix-at t) parse-suffix.Post
+  enum-told c = search needs
 
-  -- src/expressions.rt:313:85
-  start-requires : lts.Need-start-requires claims (parse-suffix-at t) parse-suffix.Post
-  start-requires c κs = search needs
-
-  -- src/expressions.rt:313:106
-  stack-requires : lts.Need-stack-requires claims (parse-suffix-at t) parse-suffix.Post
-  stack-requires c κs = search needs
-
-  -- src/expressions.rt:313:53
-  parse-repeats-requires : lts.Need-parse-repeats-requires claims (parse-suffix-at t) parse-suffix.Post
-  parse-repeats-requires c κs = let g = expressed _ _ _ _ _ _ _ _ _ (c .before .before .before .before .before .before .before .before .before .before .before .parse-inner .ensures) (c .before .before .before .before .before .u .given .1) in (ready-on (c .before .before .before .before .before .before .before .before .before .before .before .before .before .before .before .before .before .pre .1) (g .onward) (g .lays), rw (c .before .before .before .start .ensures) (ready-start (c .before .before .before .before .before .before .before .before .before .before .before .before .before .before .before .before .before .pre .1)), rw (c .before .before .stack .ensures) (g .shown .low))
-
-  -- src/expressions.rt:314:29
-  enum-known-cause-2 : lts.Need-enum-known-cause-2 claims (parse-suffix-at t) parse-suffix.Post
-  enum-known-cause-2 c = search needs
-
-  -- src/expressions.rt:315:26
-  enum-known-v : lts.Need-enum-known-v claims (parse-suffix-at t) parse-suffix.Post
-  enum-known-v c = search needs
-
-  -- src/expressions.rt:317:21
   same-length : lts.Need-same-length claims (parse-suffix-at t) parse-suffix.Post
   same-length c = search needs
 
-  -- src/expressions.rt:317:21
   same-length-2 : lts.Need-same-length-2 claims (parse-suffix-at t) parse-suffix.Post
   same-length-2 c = search needs
 
-  -- src/expressions.rt:317:21
   returns : lts.Need-returns claims (parse-suffix-at t) parse-suffix.Post
-  returns c = let g = expressed _ _ _ _ _ _ _ _ _ (c .before .before .before .before .before .before .before .before .before .before .before .before .before .before .before .before .before .before .before .before .parse-inner .ensures) (c .before .before .before .before .before .before .before .before .before .before .before .before .before .before .u .given .1) in let l = listed _ _ _ _ _ _ _ _ _ (rw (c .before .before .before .before .before .before .before .before .before .before .before .before .start .ensures, c .before .before .before .before .before .before .before .before .before .before .before .stack .ensures, ← g .shown .stacks) at (c .before .before .before .before .before .before .before .before .parse-repeats .ensures)) (c .before .before .v .given .1) in suffix-plain g l (rw (start-of _ (c .before .before .before .before .before .before .before .before .before .before .before .before .before .before .before .before .before .before .before .before .before .before .before .before .before .before .args .token)) at (suffix-done _ _ (g .gives) (l .gives))) (c .if1 .taken)
+  returns c = rw (c .enum-told .given .1) (suffix-inner _ _ (expressed-not _ _ _ _ _ _ _ _ _ (c .before .before .before .before .before .before .parse-inner .ensures) (c .enum-told .given .1)))
 
-  -- src/expressions.rt:319:42
-  start-requires-2 : lts.Need-start-requires-2 claims (parse-suffix-at t) parse-suffix.Post
-  start-requires-2 c κs = search needs
+  start-requires : lts.Need-start-requires claims (parse-suffix-at t) parse-suffix.Post
+  start-requires c κs = search needs
 
-  -- src/expressions.rt:319:77
-  stack-requires-2 : lts.Need-stack-requires-2 claims (parse-suffix-at t) parse-suffix.Post
-  stack-requires-2 c κs = search needs
+  stack-requires : lts.Need-stack-requires claims (parse-suffix-at t) parse-suffix.Post
+  stack-requires c κs = search needs
 
-  -- src/expressions.rt:319:77
-  add-t38 : lts.Need-add-t38 claims (parse-suffix-at t) parse-suffix.Post
-  add-t38 c = let g = expressed _ _ _ _ _ _ _ _ _ (c .before .before .before .before .before .before .before .before .before .before .before .before .before .before .before .before .before .before .before .before .before .before .parse-inner .ensures) (c .before .before .before .before .before .before .before .before .before .before .before .before .before .before .before .before .u .given .1) in
-      let l = listed _ _ _ _ _ _ _ _ _ (rw (c .before .before .before .before .before .before .before .before .before .before .before .before .before .before .start .ensures, c .before .before .before .before .before .before .before .before .before .before .before .before .before .stack .ensures, ← g .shown .stacks) at (c .before .before .before .before .before .before .before .before .before .before .parse-repeats .ensures)) (c .before .before .before .before .v .given .1) in
-      let low = stack-low _ _ _ _ (rw (g .shown .stacks) (g .shown .low)) (l .gives) in let k = small-stack (c .stack2 .ensures) (g .shown .stacks) (l .counted) low in omega arith
+  parse-repeats-requires : lts.Need-parse-repeats-requires claims (parse-suffix-at t) parse-suffix.Post
+  parse-repeats-requires c κs = let g = expressed _ _ _ _ _ _ _ _ _ (c .before .before .before .before .before .before .before .before .before .before .before .parse-inner .ensures) (c .before .before .before .before .before .inner .given .1) in (ready-on (c .before .before .before .before .before .before .before .before .before .before .before .before .before .before .before .before .before .pre .1) (g .onward) (g .lays), rw (c .before .before .before .start .ensures) (ready-start (c .before .before .before .before .before .before .before .before .before .before .before .before .before .before .before .before .before .pre .1)), rw (c .before .before .stack .ensures) (g .shown .low))
 
-  -- src/expressions.rt:306:1
+  enum-known-repeated : lts.Need-enum-known-repeated claims (parse-suffix-at t) parse-suffix.Post
+  enum-known-repeated c = search needs
+
+  enum-told-2 : lts.Need-enum-told-2 claims (parse-suffix-at t) parse-suffix.Post
+  enum-told-2 c = search needs
+
+  cause-requires : lts.Need-cause-requires claims (parse-suffix-at t) parse-suffix.Post
+  cause-requires c κs = search needs
+
+  place-requires : lts.Need-place-requires claims (parse-suffix-at t) parse-suffix.Post
+  place-requires c κs = search needs
+
   same-length-3 : lts.Need-same-length-3 claims (parse-suffix-at t) parse-suffix.Post
   same-length-3 c = search needs
 
-  -- src/expressions.rt:306:1
   same-length-4 : lts.Need-same-length-4 claims (parse-suffix-at t) parse-suffix.Post
   same-length-4 c = search needs
 
-  -- src/expressions.rt:306:1
   returns-2 : lts.Need-returns-2 claims (parse-suffix-at t) parse-suffix.Post
-  returns-2 c = suffix-inner _ _ (expressed-not _ _ _ _ _ _ _ _ _ (c .before .before .before .before .before .before .before .parse-inner .ensures) (c .before .cause .given .1))
+  returns-2 c = let g = expressed _ _ _ _ _ _ _ _ _ (c .before .before .before .before .before .before .before .before .before .before .before .before .before .before .before .before .before .before .before .before .parse-inner .ensures) (c .before .before .before .before .before .before .before .before .before .before .before .before .before .before .inner .given .1) in suffix-repeats _ _ (g .gives) (listed-not _ _ _ _ _ _ _ _ _ (rw (c .before .before .before .before .before .before .before .before .before .before .before .before .start .ensures, c .before .before .before .before .before .before .before .before .before .before .before .stack .ensures, ← g .shown .stacks) at (c .before .before .before .before .before .before .before .before .parse-repeats .ensures)) (listed-told (c .before .before .enum-told2 .given .1) (c .before .cause .ensures) (c .place .ensures)))
 
-  -- src/expressions.rt:306:1
   same-length-5 : lts.Need-same-length-5 claims (parse-suffix-at t) parse-suffix.Post
   same-length-5 c = search needs
 
-  -- src/expressions.rt:306:1
   same-length-6 : lts.Need-same-length-6 claims (parse-suffix-at t) parse-suffix.Post
   same-length-6 c = search needs
 
-  -- src/expressions.rt:306:1
   returns-3 : lts.Need-returns-3 claims (parse-suffix-at t) parse-suffix.Post
-  returns-3 c = let g = expressed _ _ _ _ _ _ _ _ _ (c .before .before .before .before .before .before .before .before .before .before .before .before .before .before .before .before .before .before .before .parse-inner .ensures) (c .before .before .before .before .before .before .before .before .before .before .before .before .before .u .given .1) in suffix-repeats _ _ (g .gives) (listed-not _ _ _ _ _ _ _ _ _ (rw (c .before .before .before .before .before .before .before .before .before .before .before .start .ensures, c .before .before .before .before .before .before .before .before .before .before .stack .ensures, ← g .shown .stacks) at (c .before .before .before .before .before .before .before .parse-repeats .ensures)) (c .before .cause2 .given .1))
+  returns-3 c = let g = expressed _ _ _ _ _ _ _ _ _ (c .before .before .before .before .before .before .before .before .before .before .before .before .before .before .before .before .before .before .before .before .parse-inner .ensures) (c .before .before .before .before .before .before .before .before .before .before .before .before .before .before .inner .given .1) in let l = listed _ _ _ _ _ _ _ _ _ (rw (c .before .before .before .before .before .before .before .before .before .before .before .before .start .ensures, c .before .before .before .before .before .before .before .before .before .before .before .stack .ensures, ← g .shown .stacks) at (c .before .before .before .before .before .before .before .before .parse-repeats .ensures)) (c .before .before .repeated .given .1) in suffix-plain g l (rw (start-of _ (c .before .before .before .before .before .before .before .before .before .before .before .before .before .before .before .before .before .before .before .before .before .before .before .before .before .before .args .token)) at (suffix-done _ _ (g .gives) (l .gives))) (c .if1 .taken)
 
-  -- src/expressions.rt:306:1
+  start-requires-2 : lts.Need-start-requires-2 claims (parse-suffix-at t) parse-suffix.Post
+  start-requires-2 c κs = search needs
+
+  stack-requires-2 : lts.Need-stack-requires-2 claims (parse-suffix-at t) parse-suffix.Post
+  stack-requires-2 c κs = search needs
+
+  add-t32 : lts.Need-add-t32 claims (parse-suffix-at t) parse-suffix.Post
+  add-t32 c = let g = expressed _ _ _ _ _ _ _ _ _ (c .before .before .before .before .before .before .before .before .before .before .before .before .before .before .before .before .before .before .before .before .before .before .parse-inner .ensures) (c .before .before .before .before .before .before .before .before .before .before .before .before .before .before .before .before .inner .given .1) in
+      let l = listed _ _ _ _ _ _ _ _ _ (rw (c .before .before .before .before .before .before .before .before .before .before .before .before .before .before .start .ensures, c .before .before .before .before .before .before .before .before .before .before .before .before .before .stack .ensures, ← g .shown .stacks) at (c .before .before .before .before .before .before .before .before .before .before .parse-repeats .ensures)) (c .before .before .before .before .repeated .given .1) in
+      let low = stack-low _ _ _ _ (rw (g .shown .stacks) (g .shown .low)) (l .gives) in let k = small-stack (c .stack2 .ensures) (g .shown .stacks) (l .counted) low in omega arith
+
   same-length-7 : lts.Need-same-length-7 claims (parse-suffix-at t) parse-suffix.Post
   same-length-7 c = search needs
 
-  -- src/expressions.rt:306:1
   same-length-8 : lts.Need-same-length-8 claims (parse-suffix-at t) parse-suffix.Post
   same-length-8 c = search needs
 
-  -- src/expressions.rt:306:1
   returns-4 : lts.Need-returns-4 claims (parse-suffix-at t) parse-suffix.Post
-  returns-4 c = let g = expressed _ _ _ _ _ _ _ _ _ (c .before .before .before .before .before .before .before .before .before .before .before .before .before .before .before .before .before .before .before .before .before .before .parse-inner .ensures) (c .before .before .before .before .before .before .before .before .before .before .before .before .before .before .before .before .u .given .1) in
-      let l = listed _ _ _ _ _ _ _ _ _ (rw (c .before .before .before .before .before .before .before .before .before .before .before .before .before .before .start .ensures, c .before .before .before .before .before .before .before .before .before .before .before .before .before .stack .ensures, ← g .shown .stacks) at (c .before .before .before .before .before .before .before .before .before .before .parse-repeats .ensures)) (c .before .before .before .before .v .given .1) in
+  returns-4 c = let g = expressed _ _ _ _ _ _ _ _ _ (c .before .before .before .before .before .before .before .before .before .before .before .before .before .before .before .before .before .before .before .before .before .before .parse-inner .ensures) (c .before .before .before .before .before .before .before .before .before .before .before .before .before .before .before .before .inner .given .1) in
+      let l = listed _ _ _ _ _ _ _ _ _ (rw (c .before .before .before .before .before .before .before .before .before .before .before .before .before .before .start .ensures, c .before .before .before .before .before .before .before .before .before .before .before .before .before .stack .ensures, ← g .shown .stacks) at (c .before .before .before .before .before .before .before .before .before .before .parse-repeats .ensures)) (c .before .before .before .before .repeated .given .1) in
       let low = stack-low _ _ _ _ (rw (g .shown .stacks) (g .shown .low)) (l .gives) in
       rw (c .before .start2 .ensures) (suffix-repeated g l (rw (start-of _ (c .before .before .before .before .before .before .before .before .before .before .before .before .before .before .before .before .before .before .before .before .before .before .before .before .before .before .before .before .args .token)) at (suffix-done _ _ (g .gives) (l .gives))) (c .before .before .if1 .left) (ready-start (c .before .before .before .before .before .before .before .before .before .before .before .before .before .before .before .before .before .before .before .before .before .before .before .before .before .before .before .before .pre .1)) (c .stack2 .ensures) (rw (c .stack2 .ensures, ← g .shown .stacks, ← l .counted) low))
 
   pub met : {M : Type 1} → lts.Closed claims (parse-suffix-at t) parse-suffix.Post M
-  met = lts.spec claims (parse-suffix-at t) parse-suffix.Post parse-inner-requires enum-known-cause enum-known-u start-requires stack-requires parse-repeats-requires enum-known-cause-2 enum-known-v same-length same-length-2 returns start-requires-2 stack-requires-2 add-t38 same-length-3 same-length-4 returns-2 same-length-5 same-length-6 returns-3 same-length-7 same-length-8 returns-4
+  met = lts.spec claims (parse-suffix-at t) parse-suffix.Post parse-inner-requires enum-known-inner enum-told same-length same-length-2 returns start-requires stack-requires parse-repeats-requires enum-known-repeated enum-told-2 cause-requires place-requires same-length-3 same-length-4 returns-2 same-length-5 same-length-6 returns-3 start-requires-2 stack-requires-2 add-t32 same-length-7 same-length-8 returns-4
