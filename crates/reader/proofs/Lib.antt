@@ -10,6 +10,7 @@ pub mod Membering
 pub mod Grouping
 pub mod BlockGathered
 pub mod GrammarGroups
+pub mod AheadLaws
 pub mod WholeLaws
 pub mod PlaceLaws
 pub mod TopPlaces

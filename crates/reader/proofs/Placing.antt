@@ -1,6 +1,6 @@
 -- A declaration that is stored where its group goes on.
 -- Assumes nothing.
-use Prim.Native.Nat.{ℕ, _+_, _<_, _^_}
+use Prim.Native.Nat.{ℕ, _+_, _-_, _≤_, _<_, _^_}
 use native.Mathlib.Omega.{arith}
 use mathlib.Core.Path.{_≡_, refl, ap, sym, _∙_}
 use mathlib.Core.Bool.{Bool}
@@ -18,11 +18,12 @@ use Rattle.parser.proofs.Onward.{placed-in}
 use Rattle.reader.specs.Blocks.{Roomy}
 use Rattle.reader.specs.Places.{placeIn}
 use Rattle.reader.specs.Directives.{memberBranches, Declares}
+use Rattle.reader.specs.Ahead.{kindAhead}
 use Rattle.reader.specs.Whole.{storedKinds, memberPlace, Begins, Places}
 use Rattle.reader.specs.declared.directives.Seen.{Seen}
 use Rattle.reader.proofs.BlockGathered.{both-none, stores-sizes}
 use Rattle.reader.proofs.PlaceLaws.{place-within}
-use Rattle.reader.proofs.WholeLaws.{same-declared}
+use Rattle.reader.proofs.WholeLaws.{same-declared, declared-ahead}
 
 pub place-in : (k : ℕ) {p : ℕ} → p ≡ placeIn storedKinds k → p < 13
 place-in k e = let h = place-within storedKinds k in omega arith
@@ -97,3 +98,41 @@ module _ {k : Seen} {s : List ℕ} {t : Current} {es fs gs hs : List ℕ} {u : C
         let z : n ≡ getD ps p 0 + m = omega arith in
         let o : x ≡ getD qs p 0 + y = omega arith in
         placed-by a b (rw (z, o) at st)
+
+-- it is read once, where its group goes on
+module _ {k : Seen} {s : List ℕ} {t : Current} {n x : ℕ} {ws ts : List ℕ} {u : Current} {m y : ℕ} {vs us : List ℕ} {kind : ℕ} {top : Bool}
+    (j : Declares (λ before. parseDeclaration before (stream s t)) k s t (lent n ws x ts) u (lent m vs y us) kind top) where
+  pub once-on : (n ≤ m) × (x ≤ y)
+  once-on = let a = j .lays .stores .words-end in let b = j .lays .stores .texts-end in (omega arith, omega arith)
+
+  once-lays : Lays s t u 0 (flat nodes (memberBranches (j .value))) (lent 0 [] 0 []) (lent (m - n) [] (y - x) [])
+  once-lays =
+      let a = j .lays .stores .words-end in
+      let b = j .lays .stores .texts-end in
+      record {
+        stores =
+            record {
+              words-end = omega arith;
+              texts-end = omega arith;
+              same-words = refl;
+              same-texts = refl;
+              records = λ h. both-none [] (written [] 0 _) refl (length-written [] 0 _);
+              bytes = λ h. both-none [] (written [] 0 _) refl (length-written [] 0 _);
+            };
+        bound = j .lays .bound;
+        space = j .lays .space;
+      }
+
+  abbrev once-measured : Declares (λ before. parseDeclaration before (stream s t)) k s t (lent 0 [] 0 []) u (lent (m - n) [] (y - x) []) kind top
+  once-measured = record { value = j .value; gives = j .gives; onward = j .onward; kinds = j .kinds; tops = j .tops; named = j .named; lays = once-lays }
+
+  module _ {ahead p : ℕ} (e : ahead ≡ kindAhead (stream s t)) (some : ahead ≡ 0 → ⊥) (at : p ≡ placeIn storedKinds ahead) where
+    once-place : memberPlace (j .value) ≡ p
+    once-place = ap (placeIn storedKinds) (declared-ahead k s t j e some) ∙ sym at
+
+    pub placed-once : {ps qs ps₁ qs₁ : List ℕ} → n ≡ getD ps p 0 → x ≡ getD qs p 0 → ps₁ ≡ set ps p m → qs₁ ≡ set qs p y → Places k s t ps qs ps₁ qs₁ ws ts vs us u (m - n) (y - x) kind top
+    placed-once en ex a b =
+        let o = once-on in
+        let c : n + (m - n) ≡ m = omega arith in
+        let d : x + (y - x) ≡ y = omega arith in
+        record { declares = once-measured; words-on = rw (once-place, ← en, c) a; bytes-on = rw (once-place, ← ex, d) b; stores = rw (once-place, ← en, ← ex, c, d) (j .lays .stores) }
