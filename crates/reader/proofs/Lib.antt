@@ -11,12 +11,17 @@ pub mod Grouping
 pub mod BlockGathered
 pub mod GrammarGroups
 pub mod AheadLaws
+pub mod MemberAhead
 pub mod WholeLaws
 pub mod PlaceLaws
 pub mod TopPlaces
 pub mod Placing
+pub mod Begun
 pub mod Passing
 pub mod GroupPlaces
+pub mod GroupFilled
+pub mod Spreading
+pub mod BlockFilled
 pub mod WholeFilled
 pub mod ParseLaws
 pub mod StoreLaws

@@ -1,11 +1,14 @@
--- The kind of a declaration, from its first tokens, before it is read; 0 where it is not known.
+-- The kind of a declaration, and of a member of a block, from its first tokens, before it is read; 0 where it is not known.
 -- Assumes nothing.
 use Prim.Native.Nat.{ℕ}
+use mathlib.Core.Bool.{Bool}
 use mathlib.Core.List.{List}
 use mathlib.Core.Option.{Option, none, some}
 use Rattle.basics.specs.Basics.{if_then_else_}
 use Rattle.lexer.specs.Tokens.{Tokens}
-use Rattle.notation.specs.Parser.{Answer, read, refused, kindOf, nameIn, atIn, says, next}
+use Rattle.notation.specs.Parser.{Answer, read, refused, kindOf, nameIn, atIn, stringIn, says, next}
+use Rattle.reader.specs.declared.blocks.Block.{Block}
+use Rattle.reader.specs.declared.blocks.Block.the-variants as B
 
 -- by the name after `@external`
 unfoldable pub externalKind : Option (List ℕ) → ℕ
@@ -41,3 +44,21 @@ keywordKind external t =
 
 unfoldable pub kindAhead : Tokens ℕ → ℕ
 kindAhead ts = keywordKind (externalAhead (next ts)) (atIn (kindOf ts))
+
+-- ------------------------------------------------------------------ members
+
+-- a member of `@tokens`: a string is a literal
+abbrev pub tokenKind : (at string : Option (List ℕ)) → ℕ
+tokenKind at (some t) = 11
+tokenKind at none = if says "precedence" at then 9 else if says "conflict" at then 10 else 3
+
+-- by what follows an `@`, and by a string; `free`: an `@else` still makes a fallback
+abbrev pub memberKindBy : Block → (free : Bool) → (at string : Option (List ℕ)) → ℕ
+memberKindBy B.Tokens free at string = tokenKind at string
+memberKindBy B.LocalTokens free at string = if says "precedence" at then 9 else if free then (if says "else" at then 13 else 3) else 3
+memberKindBy B.ExternalTokens free at string = if says "conflict" at then 17 else 13
+memberKindBy B.Specializer free at string = 13
+memberKindBy B.Skip free at string = if says "top" at then 2 else 3
+
+unfoldable pub memberAhead : Block → (free : Bool) → Tokens ℕ → ℕ
+memberAhead b free ts = memberKindBy b free (atIn (kindOf ts)) (stringIn (kindOf ts))

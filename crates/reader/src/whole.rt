@@ -1,4 +1,5 @@
 // The whole of a grammar file, from its first token on. A first pass measures each group; a second stores each declaration in its group.
+use crate::blocks;
 use crate::directives::Declared;
 use crate::directives::Seen;
 use crate::top;
@@ -9,7 +10,7 @@ use parser::store;
 use tokens::Arrived;
 use tokens::Current;
 use tokens::Part;
-ghost use Prim.Native.Nat.{_≤_, _<_, _^_};
+ghost use Prim.Native.Nat.{_≤_};
 ghost use mathlib.Core.Path.{_≡_};
 ghost use mathlib.Core.Bool.{_||_};
 ghost use lib.Dec.{eqb};
@@ -19,9 +20,9 @@ ghost use Rattle.tree.specs.Stored.{flag as flagD};
 ghost use Rattle.notation.specs.Parser.{next as nextD};
 ghost use Rattle.tokens.specs.Promise.{stream, LiesIn, Whole as Spelled, textIn};
 ghost use Rattle.parser.specs.Storing.{lent};
-ghost use Rattle.reader.specs.Places.{placeIn, sum, linedUp};
+ghost use Rattle.reader.specs.Places.{placeIn, Blank, Begins};
 ghost use Rattle.reader.specs.Ahead.{externalKind, externalAhead, kindAhead};
-ghost use Rattle.reader.specs.Whole.{Begins, PlacesTo, recordsOf, noteOf, PassesTo, HasNames, NamesTo, storedKinds, Blank, Known, First, Reads};
+ghost use Rattle.reader.specs.Whole.{groupCount, PlacesTo, recordsOf, noteOf, PassesTo, HasNames, NamesTo, storedKinds, Known, First, Reads};
 
 // What a pass has seen: which kinds, a top rule, `@detectDelim`, a list of dialects, and where the last one begins.
 pub struct Noted {
@@ -84,7 +85,7 @@ fn declaration_measured(
     records: &mut [u32],
     texts: &mut [u8],
 ) -> Declared
-    requires { ⌜ Begins 0x10000000 (now source) token (now words) (now bytes) ⌝ }
+    requires { ⌜ Begins groupCount 0x10000000 (now source) token (now words) (now bytes) ⌝ }
     ensures { λ r. ⌜ PlacesTo seen (now (source .entry)) token (now (words .entry)) (now (bytes .entry)) (now (words .exit)) (now (bytes .exit))
         (now (records .entry)) (now (texts .entry)) (now (records .exit)) (now (texts .exit)) r ⌝ }
 {
@@ -194,7 +195,7 @@ fn declaration_placed(
     records: &mut [u32],
     texts: &mut [u8],
 ) -> Declared
-    requires { ⌜ Begins 0x10000000 (now source) token (now words) (now bytes) ⌝ }
+    requires { ⌜ Begins groupCount 0x10000000 (now source) token (now words) (now bytes) ⌝ }
     ensures { λ r. ⌜ PlacesTo seen (now (source .entry)) token (now (words .entry)) (now (bytes .entry)) (now (words .exit)) (now (bytes .exit))
         (now (records .entry)) (now (texts .entry)) (now (records .exit)) (now (texts .exit)) r ⌝ }
 {
@@ -267,7 +268,7 @@ fn pass(
     records: &mut [u32],
     texts: &mut [u8],
 ) -> Passed
-    requires { ⌜ Begins 0x1000000 (now source) token (now words) (now bytes) ⌝ }
+    requires { ⌜ Begins groupCount 0x1000000 (now source) token (now words) (now bytes) ⌝ }
     ensures { λ r. ⌜ PassesTo (now (source .entry)) token (now (words .entry)) (now (bytes .entry)) (now (words .exit)) (now (bytes .exit))
         (now (records .entry)) (now (texts .entry)) (now (records .exit)) (now (texts .exit)) r ⌝ }
 {
@@ -333,21 +334,6 @@ fn dialects(
     }
 }
 
-// Sizes become places: each begins where the one before it ends.
-fn line_up(sizes: &mut [usize])
-    requires { ⌜ sum (now sizes) < 2 ^ 64 ⌝ }
-    ensures { λ _. ⌜ now (sizes .exit) ≡ linedUp 0 (now (sizes .entry)) ⌝ }
-{
-    let mut at: usize = 0;
-    let mut i: usize = 0;
-    while i < sizes.len() {
-        let size = sizes[i];
-        sizes[i] = at;
-        at += size;
-        i += 1;
-    }
-}
-
 fn flag(b: bool) -> u32
     ensures { λ r. ⌜ r ≡ flagD b ⌝ }
 {
@@ -372,8 +358,8 @@ fn store(
     requires { ⌜ (length (now source) ≤ 0x10000) × LiesIn (now source) 0 token × Known (now source) token last noted count (now words) (now bytes) (now records) (now texts) ⌝ }
     ensures { λ r. ⌜ Reads (now (source .entry)) (now (records .entry)) (now (texts .entry)) (now (records .exit)) (now (texts .exit)) r ⌝ }
 {
-    line_up(words);
-    line_up(bytes);
+    blocks::line_up(words, 0);
+    blocks::line_up(bytes, 0);
     let m = words[11];
     let y = bytes[11];
     match dialects(source, noted, records, m, texts, y) {
@@ -410,7 +396,7 @@ fn parse_over(
     records: &mut [u32],
     texts: &mut [u8],
 ) -> Whole
-    requires { ⌜ (length (now source) ≤ 0x10000) × First (now source) token × Blank (now words) × Blank (now bytes) ⌝ }
+    requires { ⌜ (length (now source) ≤ 0x10000) × First (now source) token × Blank groupCount (now words) × Blank groupCount (now bytes) ⌝ }
     ensures { λ r. ⌜ Reads (now (source .entry)) (now (records .entry)) (now (texts .entry)) (now (records .exit)) (now (texts .exit)) r ⌝ }
 {
     match pass(
