@@ -1,6 +1,6 @@
 -- A block in braces: what was read behind the brace, where nothing is lent and where the groups are stored.
 -- Assumes nothing.
-use Prim.Native.Nat.{ℕ, _+_, _*_, _≤_}
+use Prim.Native.Nat.{ℕ, _+_, _-_, _*_, _≤_}
 use native.Mathlib.Omega.{arith}
 use mathlib.Core.Path.{_≡_, refl, ap, sym, _∙_}
 use mathlib.Core.Bool.{true}
@@ -65,16 +65,45 @@ stores-sizes {ws = ws} {ts} {vs} {us} st p q a b c d =
       bytes = λ h. both-none us (written ts _ _) d (length-written _ _ _ ∙ b);
     }
 
+-- what is stored takes as much where nothing is lent, behind whatever is taken
+pub stores-again : {xs : List Node} {m y : ℕ} (n x : ℕ) → Stores xs (lent 0 [] 0 []) (lent m [] y []) → Stores xs (lent n [] x []) (lent (n + m) [] (x + y) [])
+stores-again n x st =
+    let a = st .words-end in
+    let b = st .texts-end in
+    record {
+      words-end = omega arith;
+      texts-end = omega arith;
+      same-words = refl;
+      same-texts = refl;
+      records = λ h. both-none [] (written [] n _) refl (length-written [] n _);
+      bytes = λ h. both-none [] (written [] x _) refl (length-written [] x _);
+    }
+
+-- and before it
+pub lays-alone : {s : List ℕ} {t u : Current} {xs : List Node} {n x m y : ℕ} {ws ts vs us : List ℕ} → Lays s t u 0 xs (lent n ws x ts) (lent m vs y us) → Lays s t u 0 xs (lent 0 [] 0 []) (lent (m - n) [] (y - x) [])
+lays-alone l =
+    let a = l .stores .words-end in
+    let b = l .stores .texts-end in
+    record {
+      stores =
+          record {
+            words-end = omega arith;
+            texts-end = omega arith;
+            same-words = refl;
+            same-texts = refl;
+            records = λ h. both-none [] (written [] 0 _) refl (length-written [] 0 _);
+            bytes = λ h. both-none [] (written [] 0 _) refl (length-written [] 0 _);
+          };
+      bound = l .bound;
+      space = l .space;
+    }
+
 -- ------------------------------------------------------------------ behind the brace
 
 module _ (b : Block) (ts : Tokens ℕ) {us : Tokens ℕ} (e : expect "{" ts ≡ read tt us) where
   pub block-members : block (betweenBy (commaOf b)) (memberOf b) ts ≡ membersOf b us
   unfolding _>>=_ andThen
   block-members = rw e
-
-module _ (b : Block) {s : List ℕ} {u v : Current} {a c : Lent} {children : ℕ} (g : Gathers (membersOf b (stream s u)) (allOf (kindOf b) (branchesOf b) 0) s u 1 a v c children) where
-  pub measured-of : Measured b s u v
-  measured-of = let d = g .lays .bound in record { members = g .members; gives = g .gives; onward = g .onward; bound = omega arith; space = g .lays .space }
 
 module _ (b : Block) (s : List ℕ) (t : Current) {u : Current} (l : LiesIn s 0 t) (r : Arrived) (h : Expects s t 0x7B r) (q : r ≡ At u) where
   abbrev blockOf : Answer ℕ (List (MemberOf b))
@@ -86,44 +115,18 @@ module _ (b : Block) (s : List ℕ) (t : Current) {u : Current} (l : LiesIn s 0 
   pub block-halted : {c p : ℕ} → membersOf b (stream s u) ≡ refused c p → blockOf ≡ refused c p
   block-halted e = block-members b (stream s t) (expect-at s "{" t r h q) ∙ e
 
-  -- sizes are enough where nothing is lent
-  pub block-measured : {v : Current} {n x m y children : ℕ} {ws₀ ts₀ e f : List ℕ} (ws ts : List ℕ)
-      → Gathers (membersOf b (stream s u)) (allOf (kindOf b) (branchesOf b) 0) s u 1 (lent n ws₀ x ts₀) v (lent m e y f) children
-      → length ws₀ ≡ 0 → length ts₀ ≡ 0 → length ws ≡ 0 → length ts ≡ 0
-      → Gathers blockOf (groupsOf (kindOf b) (branchesOf b) (kindsOf b)) s t 2 (lent n ws x ts) v (lent m (e ++ ws) y (f ++ ts)) children
-  block-measured {ws₀ = ws₀} {ts₀} {e} {f} ws ts g a₀ c₀ a c =
-      let a₁ = g .lays .stores .same-words in
-      let c₁ = g .lays .stores .same-texts in
-      let a₂ = length-append e ws in
-      let c₂ = length-append f ts in
-      let o = brace-onward in
-      let z = o .ahead in
-      let ms = g .members in
-      let i = weighs (block-once b) nodes-of ms in
-      let j = weighs (block-once b) bytes-of ms in
-      let k = g .lays .bound in
-      let l = g .lays .space in
-      record {
-        members = ms;
-        gives = block-members b (stream s t) (expect-at s "{" t r h q) ∙ g .gives;
-        counted = weighs (block-once b) number ms ∙ g .counted;
-        onward = onward-then o (g .onward);
-        lays = record { stores = stores-sizes (g .lays .stores) (sym i) (sym j) a c (omega arith) (omega arith); bound = omega arith; space = omega arith };
-      }
-
-  -- what was stored behind the brace; e and f are the empty parts that were lent for measuring
-  pub block-gathered : (e f : List ℕ) → length e ≡ 0 → length f ≡ 0 → (n x : ℕ) (ws ts vs us : List ℕ) (k : Listed)
-      → GathersTo (membersOf b (stream s u)) (groupsOf (kindOf b) (branchesOf b) (kindsOf b)) s u 1 (lent n (e ++ ws) x (f ++ ts)) vs us k
+  -- what was stored behind the brace
+  pub block-gathered : (n x : ℕ) (ws ts vs us : List ℕ) (k : Listed)
+      → GathersTo (membersOf b (stream s u)) (groupsOf (kindOf b) (branchesOf b) (kindsOf b)) s u 1 (lent n ws x ts) vs us k
       → GathersTo blockOf (groupsOf (kindOf b) (branchesOf b) (kindsOf b)) s t 2 (lent n ws x ts) vs us k
-  block-gathered e f i j n x ws ts vs us (Done v m y count) g =
+  block-gathered n x ws ts vs us (Done v m y count) g =
       let o = brace-onward in
       let z = o .ahead in
-      let y : Lays s u v 0 (flat nodes (groupsOf (kindOf b) (branchesOf b) (kindsOf b) (g .members))) (lent n ws x ts) (lent m vs y us) = rw (front-none e ws i, front-none f ts j) at (g .lays) in
       record {
         members = g .members;
         gives = block-members b (stream s t) (expect-at s "{" t r h q) ∙ g .gives;
         counted = g .counted;
         onward = onward-then o (g .onward);
-        lays = lays-between 0 y (omega arith) (omega arith) (omega arith);
+        lays = lays-between 0 (g .lays) (omega arith) (omega arith) (omega arith);
       }
-  block-gathered e f i j n x ws ts vs us (Refused c p) g = block-halted g
+  block-gathered n x ws ts vs us (Refused c p) g = block-halted g

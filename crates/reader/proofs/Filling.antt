@@ -91,7 +91,7 @@ module _ {before after : List ℕ} {c : ℕ} {part : List ℕ} (p : Put before a
       ap (λ (l : List ℕ). getD l (c + i) 0) is-written ∙ ap (λ (k : ℕ). getD (take c before ++ (part ++ drop (c + length part) before)) k 0) n
       ∙ getD-append-add (take c before) (part ++ drop (c + length part) before) i 0 ∙ List·getD-append part (drop (c + length part) before) 0 i q
 
-  written-before : (i : ℕ) → i < c → getD after i 0 ≡ getD before i 0
+  pub written-before : (i : ℕ) → i < c → getD after i 0 ≡ getD before i 0
   written-before i q =
       let l = front in
       ap (λ (l : List ℕ). getD l i 0) is-written

@@ -5,7 +5,7 @@ use native.Mathlib.Omega.{arith}
 use mathlib.Core.Path.{_≡_, refl, ap, sym, _∙_}
 use mathlib.Core.List.{List, [], _∷_, _++_}
 use lib.Dec.{eqb}
-use lib.ListN.{length, take, getD}
+use lib.ListN.{length, length-append, take, getD}
 use lib.Seq.{take-suc}
 use Rattle.tree.specs.Records.{Branch, Node, nodes, width, recordsFrom, words, textsOf}
 use Rattle.tree.proofs.Encoded.{records-append, texts-append}
@@ -60,6 +60,13 @@ pub sum-suc : (xs : List ℕ) (g : ℕ) → g < length xs → sum (take (suc g) 
 unfolding sum
 sum-suc xs g l = ap sum (take-suc xs g 0 l) ∙ sum-append (take g xs) (getD xs g 0 ∷ []) ∙ omega arith
 
+pub sum-part : (xs : List ℕ) (g : ℕ) → sum (take g xs) ≤ sum xs
+unfolding sum
+sum-part [] zero = omega arith
+sum-part [] (suc g) = omega arith
+sum-part (x ∷ xs) zero = omega arith
+sum-part (x ∷ xs) (suc g) = let h = sum-part xs g in omega arith
+
 -- ------------------------------------------------------------------ one after another
 
 -- what is stored of nodes, whose texts begin at a place: their words, or their bytes
@@ -80,6 +87,18 @@ in-words =
 
 abbrev pub in-bytes : Coding
 in-bytes = record { code = λ b xs. textsOf xs; size = λ xs. length (textsOf xs); more = λ b xs ys. texts-append xs ys; sized = λ b xs. refl }
+
+module _ (c : Coding) where
+  pub size-append : (a b : List Node) → c .size (a ++ b) ≡ c .size a + c .size b
+  size-append a b =
+      let e = ap length (c .more 0 a b) ∙ length-append (c .code 0 a) (c .code (0 + length (textsOf a)) b) in
+      let f = c .sized 0 (a ++ b) in
+      let g = c .sized 0 a in
+      let h = c .sized (0 + length (textsOf a)) b in
+      omega arith
+
+  pub size-none : c .size [] ≡ 0
+  size-none = let e = size-append [] [] in omega arith
 
 module _ (c : Coding) {M : Type 0} (kind : M → ℕ) (branches : M → List Branch) (ks : List ℕ) (distinct : Distinct ks) (positive : Nonzero ks) (ms : List M) where
   -- the nodes of the first groups, and of one

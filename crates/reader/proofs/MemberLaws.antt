@@ -210,11 +210,11 @@ module _ {xs : List Node} {a b : Lent} (st : Stores xs a b) where
   no-texts e ts = nothing-before (b .texts) ts (st .same-texts ∙ e)
 
 -- members before, of which one is a fallback or none is
-record Before (b : Block) (free : Bool) : Type 0 where
+pub record Before (b : Block) (free : Bool) : Type 0 where
   pub members : List (MemberOf b)
   pub is : Free b members free
 
-some-before : (b : Block) (free : Bool) → Before b free
+pub some-before : (b : Block) (free : Bool) → Before b free
 unfolding picked
 some-before B.Tokens free = record { members = []; is = tt }
 some-before B.LocalTokens true = record { members = []; is = refl }

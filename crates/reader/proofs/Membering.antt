@@ -40,7 +40,7 @@ pub record Membering (b : Block) (w : ℕ) (s : List ℕ) (t₀ : Current) (a : 
   pub still : Free b (listing .items) free
   pub few : count + placed s t₀ ≤ placed s t
 
-free-first : (b : Block) → Free b [] true
+pub free-first : (b : Block) → Free b [] true
 unfolding picked
 free-first Tokens = tt
 free-first LocalTokens = refl
@@ -58,7 +58,7 @@ fallback-snoc (LocalMember.precedence x ∷ ms) m = fallback-snoc ms m
 fallback-snoc (LocalMember.rule x ∷ ms) m = fallback-snoc ms m
 fallback-snoc (LocalMember.fallback x ∷ ms) m = refl
 
-free-snoc : (b : Block) (ms : List (MemberOf b)) (m : MemberOf b) (free : Bool) {kind : ℕ} → kindOf b m ≡ kind → Free b ms free → Free b (ms ++ m ∷ []) (free && not (eqb kind 13))
+pub free-snoc : (b : Block) (ms : List (MemberOf b)) (m : MemberOf b) (free : Bool) {kind : ℕ} → kindOf b m ≡ kind → Free b ms free → Free b (ms ++ m ∷ []) (free && not (eqb kind 13))
 free-snoc Tokens ms m free e f = tt
 free-snoc LocalTokens ms m free e f = fallback-snoc ms m ∙ rw (f, e)
 free-snoc ExternalTokens ms m free e f = tt
@@ -66,53 +66,53 @@ free-snoc Specializer ms m free e f = tt
 free-snoc Skip ms m free e f = tt
 
 module _ (b : Block) (w : ℕ) (s : List ℕ) where
-  pub membering-start : (t : Current) (a : Lent) → LiesIn s 0 t → Membering b w s t a t a 0 0 true
+  unfoldable pub membering-start : (t : Current) (a : Lent) → LiesIn s 0 t → Membering b w s t a t a 0 0 true
   unfolding listing-start allOf
   membering-start t a l = record { listing = listing-start _ _ s t 0 a l; counted = refl; still = free-first b; few = omega arith }
 
 module _ {b : Block} {w : ℕ} {s : List ℕ} {t₀ : Current} {a : Lent} {t : Current} {n x count children : ℕ} {ws ts : List ℕ} {free : Bool}
     (m : Membering b w s t₀ a t (lent n ws x ts) count children free) {k : Comma} (q : k ≡ commaOf b) {r : Opened} (p : Opens s t (code "}") k count r) where
-  o : Opens s t (code "}") (commaOf b) count r
-  o = rw q at p
+  pub opened : Opens s t (code "}") (commaOf b) count r
+  opened = rw q at p
 
-  pub members-closed : {u : Current} → r ≡ O.Closed u → Gathers (membersOf b (stream s t₀)) (allOf (kindOf b) (branchesOf b) w) s t₀ 1 a u (lent n ws x ts) children
+  unfoldable pub members-closed : {u : Current} → r ≡ O.Closed u → Gathers (membersOf b (stream s t₀)) (allOf (kindOf b) (branchesOf b) w) s t₀ 1 a u (lent n ws x ts) children
   members-closed e =
       let l = m .listing in
-      let c = closed-onward "}" o e in
+      let c = closed-onward "}" opened e in
       let z = c .ahead in
       record {
         members = l .items;
-        gives = loop-end _ (l .goes) (opens-closed "}" (commaOf b) (memberOf b) o (l .items) (l .counted) e);
+        gives = loop-end _ (l .goes) (opens-closed "}" (commaOf b) (memberOf b) opened (l .items) (l .counted) e);
         counted = m .counted;
         onward = onward-then (l .onward) c;
         lays = rw (all-nodes (kindOf b) (branchesOf b) w (l .items)) (lays-between 0 (l .lays) (omega arith) (omega arith) (omega arith));
       }
 
   pub members-refused : {c : Cause} {p : ℕ} → r ≡ O.Refused c p → membersOf b (stream s t₀) ≡ refused (causeNumber c) p
-  members-refused e = listing-refused (m .listing) (opens-refused "}" (commaOf b) (memberOf b) o (m .listing .items) (m .listing .counted) e)
+  members-refused e = listing-refused (m .listing) (opens-refused "}" (commaOf b) (memberOf b) opened (m .listing .items) (m .listing .counted) e)
 
   module _ {u : Current} (e : r ≡ O.Item u) where
     pub member-refused : {c p : ℕ} → ((before : List (MemberOf b)) → Free b before free → memberOf b before (stream s u) ≡ refused c p) → membersOf b (stream s t₀) ≡ refused c p
     unfolding andThen
     member-refused h =
         let l = m .listing in
-        listing-refused l (opens-item "}" (commaOf b) (memberOf b) o (l .items) (l .counted) e ∙ rw (h (l .items) (m .still)))
+        listing-refused l (opens-item "}" (commaOf b) (memberOf b) opened (l .items) (l .counted) e ∙ rw (h (l .items) (m .still)))
 
     module _ {v : Current} {i y more kind : ℕ} {vs us : List ℕ} (j : Joins b w free s u (lent n ws x ts) v (lent i vs y us) more kind) where
       pub member-onward : Onward s t v 1
-      member-onward = let o₁ = item-onward "}" o e in onward-least 1 (onward-then o₁ (j .onward)) (omega arith)
+      member-onward = let o₁ = item-onward "}" opened e in onward-least 1 (onward-then o₁ (j .onward)) (omega arith)
 
-      pub member-more : Membering b w s t₀ a v (lent i vs y us) (count + 1) (children + more) (free && not (eqb kind 13))
+      unfoldable pub member-more : Membering b w s t₀ a v (lent i vs y us) (count + 1) (children + more) (free && not (eqb kind 13))
       unfolding andThen pure listing-turn listing-more
       member-more =
           let l = m .listing in
-          let o₁ = item-onward "}" o e in
+          let o₁ = item-onward "}" opened e in
           let z = o₁ .ahead in
           record {
             listing =
                 listing-turn
                 l
-                (opens-item "}" (commaOf b) (memberOf b) o (l .items) (l .counted) e ∙ rw (j .gives (l .items) (m .still)))
+                (opens-item "}" (commaOf b) (memberOf b) opened (l .items) (l .counted) e ∙ rw (j .gives (l .items) (m .still)))
                 member-onward
                 (lays-between 0 (j .lays) (omega arith) (omega arith) (omega arith));
             counted = ap length (all-snoc (kindOf b) (branchesOf b) w (l .items) (j .value)) ∙ length-append (allOf (kindOf b) (branchesOf b) w (l .items)) (chosen (kindOf b) (branchesOf b) w (j .value)) ∙ rw (m .counted, j .counted);

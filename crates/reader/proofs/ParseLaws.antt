@@ -32,7 +32,8 @@ use Rattle.parser.proofs.Onward.{placed-in}
 use Rattle.parser.proofs.Ready.{arrived-at, arrived-not, flat-length}
 use Rattle.reader.specs.Groups.{allOf, groupsOf}
 use Rattle.reader.specs.Directives.{memberKind, memberBranches}
-use Rattle.reader.specs.Whole.{members, lastNames, declaredKinds, storedKinds, HasNames, Names, NamesTo, Begins, Passes, PassesTo, Blank, Sizes, Known, First, Stopped, by-text, by-words, by-bytes, Reads}
+use Rattle.reader.specs.Places.{Begins, Blank}
+use Rattle.reader.specs.Whole.{members, lastNames, declaredKinds, storedKinds, HasNames, Names, NamesTo, Passes, PassesTo, Sizes, Known, First, Stopped, by-text, by-words, by-bytes, Reads, groupCount}
 use Rattle.reader.specs.declared.whole.Noted.{Noted}
 use Rattle.reader.specs.declared.whole.Passed.{Passed}
 use Rattle.reader.specs.declared.whole.Passed.the-variants as P
@@ -155,7 +156,7 @@ module _ (s : List ℕ) (r : Arrived) (h : (arrive (tokensAt s 0) ≡ arrival s 
 
 module _ {s : List ℕ} {t : Current} (first : First s t) where
   -- all room is left
-  pub first-begins : length s ≤ 0x10000 → {ps qs : List ℕ} → Blank ps → Blank qs → Begins 0x1000000 s t ps qs
+  pub first-begins : length s ≤ 0x10000 → {ps qs : List ℕ} → Blank groupCount ps → Blank groupCount qs → Begins groupCount 0x1000000 s t ps qs
   first-begins z a b =
       record {
         lies = first .lies;
@@ -181,7 +182,7 @@ module _ {s : List ℕ} {t : Current} (first : First s t) where
     no-texts-yet e ts = front-none hs ts (g .fills .texts .same ∙ e)
 
     -- the sizes of the groups
-    measured-sizes : Blank ns → Blank xs → Sizes (g .found) ns₁ xs₁
+    measured-sizes : Blank groupCount ns → Blank groupCount xs → Sizes (g .found) ns₁ xs₁
     measured-sizes a b =
         record {
           words-all = g .fills .same-places ∙ a .all;
@@ -275,7 +276,7 @@ module _ {s : List ℕ} {t : Current} (first : First s t) where
               (by-bytes (record { tree = grammarAt; rest = stream s last; gives = whole-read has-top; fits = omega arith; over = omega arith; cause-is = refl; place-is = refl }), v, u)
 
         -- there is room for all
-        pub all-known : Blank ns → Blank xs → m + 7 ≤ length ws → y ≤ length ts → Known s t last noted (count + named) ns₁ xs₁ ws ts
+        pub all-known : Blank groupCount ns → Blank groupCount xs → m + 7 ≤ length ws → y ≤ length ts → Known s t last noted (count + named) ns₁ xs₁ ws ts
         all-known none-words none-bytes i j =
             let e = measured-words in
             let f = measured-bytes in
@@ -312,5 +313,5 @@ zeros-at [] h g = refl
 zeros-at (x ∷ xs) h zero = h .0
 zeros-at (x ∷ xs) h (suc g) = zeros-at xs (h .1) g
 
-pub blank : Blank (0 ∷ 0 ∷ 0 ∷ 0 ∷ 0 ∷ 0 ∷ 0 ∷ 0 ∷ 0 ∷ 0 ∷ 0 ∷ 0 ∷ 0 ∷ [])
+pub blank : Blank groupCount (0 ∷ 0 ∷ 0 ∷ 0 ∷ 0 ∷ 0 ∷ 0 ∷ 0 ∷ 0 ∷ 0 ∷ 0 ∷ 0 ∷ 0 ∷ [])
 blank = record { all = refl; none = zeros-at (0 ∷ 0 ∷ 0 ∷ 0 ∷ 0 ∷ 0 ∷ 0 ∷ 0 ∷ 0 ∷ 0 ∷ 0 ∷ 0 ∷ 0 ∷ []) (refl, (refl, (refl, (refl, (refl, (refl, (refl, (refl, (refl, (refl, (refl, (refl, (refl, tt))))))))))))) }

@@ -28,14 +28,15 @@ use Rattle.notation.proofs.Turns.{loop-end}
 use Rattle.parser.proofs.Onward.{placed-in}
 use Rattle.parser.proofs.Lists.{Listing, listing-start, listing-turn, listing-more, listing-refused}
 use Rattle.reader.specs.Groups.{chosen, allOf}
-use Rattle.reader.specs.Places.{groupAt, Fills}
+use Rattle.reader.specs.Places.{groupAt, Fills, Begins}
 use Rattle.reader.specs.Directives.{memberKind, memberBranches, SeenIs}
-use Rattle.reader.specs.Whole.{members, storedKinds, memberPlace, groupCount, Begins, Places, NotedIs, recordsOf, noteOf, Passes}
+use Rattle.reader.specs.Whole.{members, storedKinds, memberPlace, groupCount, Places, NotedIs, recordsOf, noteOf, Passes}
 use Rattle.reader.specs.declared.whole.Noted.{Noted}
-use Rattle.reader.proofs.BlockGathered.{both-none}
+use Rattle.reader.proofs.BlockGathered.{stores-again}
 use Rattle.reader.proofs.Filling.{fills-none, fills-more}
 use Rattle.reader.proofs.PlaceLaws.{place-within}
-use Rattle.reader.proofs.GroupSizes.{Weight, nodes-of, bytes-of, all-snoc, all-nodes}
+use Rattle.reader.proofs.GroupSizes.{all-snoc, all-nodes}
+use Rattle.reader.proofs.Begun.{begins-on}
 use Rattle.reader.proofs.WholeLaws.{noted-start, noted-more, counted-more}
 
 records-few : (k : ℕ) → recordsOf k ≤ 1
@@ -44,20 +45,6 @@ records-few k = go (eqb k 1 || eqb k 24)
     go : (b : Bool) → (if b then 0 else 1) ≤ 1
     go true = omega arith
     go false = omega arith
-
--- a group weighs no more than all
-group-weighs : {M : Type 0} (place kind : M → ℕ) (branches : M → List Branch) (w : Weight) (g : ℕ) (ms : List M) → w .of (groupAt place branches g ms) ≤ w .of (allOf kind branches 0 ms)
-unfolding groupAt allOf
-group-weighs place kind branches w g [] = omega arith
-group-weighs place kind branches w g (m ∷ ms) =
-    let a = group-weighs place kind branches w g ms in
-    let b = w .more (branches m) (allOf kind branches 0 ms) in
-    go (eqb (place m) g) (w .none) a b
-  where
-    go : (b : Bool) → w .of [] ≡ 0 → w .of (groupAt place branches g ms) ≤ w .of (allOf kind branches 0 ms) → w .of (branches m ++ allOf kind branches 0 ms) ≡ w .of (branches m) + w .of (allOf kind branches 0 ms)
-        → w .of ((if b then branches m else []) ++ groupAt place branches g ms) ≤ w .of (branches m ++ allOf kind branches 0 ms)
-    go true n a b = let c = w .more (branches m) (groupAt place branches g ms) in omega arith
-    go false n a b = omega arith
 
 abbrev step : List (Member ℕ) → Parser ℕ (Option (Member ℕ))
 step = untilStep (kind >>= λ k. pure (isEnd k)) nothing parseDeclaration
@@ -99,20 +86,6 @@ unfolding listing-start allOf
 passing-start s t ps qs ws ts l =
     record { turns = 0; listing = listing-start _ _ s t 0 (lent 0 [] 0 []) l; counted = refl; is-noted = noted-start s t; few = omega arith; fills = fills-none memberPlace memberBranches groupCount ps qs ws ts }
 
--- what is stored takes as much where nothing is lent, behind whatever is taken
-stores-again : {xs : List Node} {m y : ℕ} (n x : ℕ) → Stores xs (lent 0 [] 0 []) (lent m [] y []) → Stores xs (lent n [] x []) (lent (n + m) [] (x + y) [])
-stores-again n x st =
-    let a = st .words-end in
-    let b = st .texts-end in
-    record {
-      words-end = omega arith;
-      texts-end = omega arith;
-      same-words = refl;
-      same-texts = refl;
-      records = λ h. both-none [] (written [] n _) refl (length-written [] n _);
-      bytes = λ h. both-none [] (written [] x _) refl (length-written [] x _);
-    }
-
 module _ {s : List ℕ} {t₀ : Current} {ps qs ps₁ qs₁ ws ts vs us : List ℕ} {t : Current} {n x count : ℕ} {noted : Noted}
     (p : Passing s t₀ ps qs ps₁ qs₁ ws ts vs us t n x count noted) where
   pub passing-done : {q : ℕ} → t ≡ End q → Passes s t₀ ps qs ps₁ qs₁ ws ts vs us t n x count noted
@@ -129,43 +102,16 @@ module _ {s : List ℕ} {t₀ : Current} {ps qs ps₁ qs₁ ws ts vs us : List �
       }
 
   -- the places move on, and stay small
-  pub passing-begins : Begins 0x1000000 s t₀ ps qs → Begins 0x10000000 s t ps₁ qs₁
+  pub passing-begins : Begins groupCount 0x1000000 s t₀ ps qs → Begins groupCount 0x10000000 s t ps₁ qs₁
   passing-begins b =
       let l = p .listing in
-      record {
-        lies = l .onward .lies;
-        small = b .small;
-        words-all = p .fills .same-places ∙ b .words-all;
-        bytes-all = p .fills .same-bytes ∙ b .bytes-all;
-        words-few = λ g. words-few g (decLt g groupCount) (b .small) (b .words-few g) (b .words-all);
-        bytes-few = λ g. bytes-few g (decLt g groupCount) (b .small) (b .bytes-few g) (b .bytes-all);
-      }
-    where
-      words-few : (g : ℕ) → Dec (g < groupCount) → length s ≤ 0x10000 → getD ps g 0 ≤ 0x1000000 → length ps ≡ groupCount → getD ps₁ g 0 ≤ 0x10000000
-      words-few g (yes l) z a e =
-          let on = p .fills .words-on g l in
-          let w = group-weighs memberPlace memberKind memberBranches nodes-of g (p .listing .items) in
-          let c = ap length (all-nodes memberKind memberBranches 0 (p .listing .items)) in
-          let d = p .listing .lays .bound in
-          let f = placed-in s t (p .listing .onward .lies) in
-          omega arith
-      words-few g (no l) z a e =
-          let k = p .fills .same-places in
-          let h : getD ps₁ g 0 ≡ 0 = List·getD-eq-default ps₁ 0 {n = g} (omega arith) in
-          omega arith
-
-      bytes-few : (g : ℕ) → Dec (g < groupCount) → length s ≤ 0x10000 → getD qs g 0 ≤ 0x1000000 → length qs ≡ groupCount → getD qs₁ g 0 ≤ 0x10000000
-      bytes-few g (yes l) z a e =
-          let on = p .fills .bytes-on g l in
-          let w = group-weighs memberPlace memberKind memberBranches bytes-of g (p .listing .items) in
-          let c = ap (λ (l : List Node). length (textsOf l)) (all-nodes memberKind memberBranches 0 (p .listing .items)) in
-          let d = p .listing .lays .space in
-          let f = placed-in s t (p .listing .onward .lies) in
-          omega arith
-      bytes-few g (no l) z a e =
-          let k = p .fills .same-bytes in
-          let h : getD qs₁ g 0 ≡ 0 = List·getD-eq-default qs₁ 0 {n = g} (omega arith) in
-          omega arith
+      let c = ap length (all-nodes memberKind memberBranches 0 (l .items)) in
+      let d = ap (λ (l : List Node). length (textsOf l)) (all-nodes memberKind memberBranches 0 (l .items)) in
+      let e = l .lays .bound in
+      let f = l .lays .space in
+      let g = placed-in s t (l .onward .lies) in
+      let h = b .small in
+      begins-on memberPlace memberKind memberBranches (p .fills) (omega arith) (omega arith) b 0x10000000 (omega arith) (l .onward .lies)
 
   pub passing-small : length s ≤ 0x10000 → (count ≤ 0x10000) × (n ≤ 0x1000000) × (x ≤ 0x1000000)
   passing-small h =
@@ -185,7 +131,7 @@ module _ {s : List ℕ} {t₀ : Current} {ps qs ps₁ qs₁ ws ts vs us : List �
         let l = p .listing in
         listing-refused l (open-step s (l .items) t i ∙ rw (h (l .items) (p .is-noted .seen)))
 
-    module _ {ps₂ qs₂ vs₂ us₂ : List ℕ} {u : Current} {m y k : ℕ} {top : Bool} (b : Begins 0x1000000 s t₀ ps qs) (j : Places (noted .seen) s t ps₁ qs₁ ps₂ qs₂ vs us vs₂ us₂ u m y k top) where
+    module _ {ps₂ qs₂ vs₂ us₂ : List ℕ} {u : Current} {m y k : ℕ} {top : Bool} (b : Begins groupCount 0x1000000 s t₀ ps qs) (j : Places (noted .seen) s t ps₁ qs₁ ps₂ qs₂ vs us vs₂ us₂ u m y k top) where
       pub passing-more : {more : ℕ} {next : Noted} → more ≡ recordsOf k → next ≡ noteOf noted t k top → Passing s t₀ ps qs ps₂ qs₂ ws ts vs₂ us₂ u (n + m) (x + y) (count + more) next
       unfolding andThen pure listing-turn listing-more
       passing-more {more} {next} e f =

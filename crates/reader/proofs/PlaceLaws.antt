@@ -88,25 +88,25 @@ place-test (x ∷ xs) d k (suc i) l = go (eqb k x) refl (place-test xs (d .1) k 
 -- ------------------------------------------------------------------ sizes become places
 
 -- the first i are places, the rest sizes
-pub record Lining (sizes₀ sizes : List ℕ) (at i : ℕ) : Type 0 where
-  pub is : linedUp 0 sizes₀ ≡ take i sizes ++ linedUp at (drop i sizes)
-  pub left : at + sum (drop i sizes) ≡ sum sizes₀
+pub record Lining (from : ℕ) (sizes₀ sizes : List ℕ) (at i : ℕ) : Type 0 where
+  pub is : linedUp from sizes₀ ≡ take i sizes ++ linedUp at (drop i sizes)
+  pub left : at + sum (drop i sizes) ≡ from + sum sizes₀
   pub same : length sizes ≡ length sizes₀
   pub within : i ≤ length sizes
 
-pub lining-start : (sizes : List ℕ) → Lining sizes sizes 0 0
-lining-start sizes = record { is = refl; left = omega arith; same = refl; within = omega arith }
+pub lining-start : (from : ℕ) (sizes : List ℕ) → Lining from sizes sizes from 0
+lining-start from sizes = record { is = refl; left = omega arith; same = refl; within = omega arith }
 
-module _ {sizes₀ sizes : List ℕ} {at i : ℕ} (l : Lining sizes₀ sizes at i) where
+module _ {from : ℕ} {sizes₀ sizes : List ℕ} {at i : ℕ} (l : Lining from sizes₀ sizes at i) where
   module _ (h : i < length sizes) where
     lining-sum : sum (drop i sizes) ≡ getD sizes i 0 + sum (drop (i + 1) sizes)
     unfolding sum
     lining-sum = let n : suc i ≡ i + 1 = omega arith in ap sum (drop-cons sizes i 0 h) ∙ ap (λ (k : ℕ). getD sizes i 0 + sum (drop k sizes)) n
 
-    pub lining-small : sum sizes₀ < 0x10000000000000000 → at + getD sizes i 0 < 0x10000000000000000
+    pub lining-small : from + sum sizes₀ < 0x10000000000000000 → at + getD sizes i 0 < 0x10000000000000000
     lining-small z = let a = lining-sum in let b = l .left in omega arith
 
-    pub lining-next : {next : List ℕ} → next ≡ set sizes i at → Lining sizes₀ next (at + getD sizes i 0) (i + 1)
+    pub lining-next : {next : List ℕ} → next ≡ set sizes i at → Lining from sizes₀ next (at + getD sizes i 0) (i + 1)
     unfolding linedUp
     lining-next e =
         let n : suc i ≡ i + 1 = omega arith in
@@ -122,7 +122,7 @@ module _ {sizes₀ sizes : List ℕ} {at i : ℕ} (l : Lining sizes₀ sizes at 
           within = rw (e, length-set sizes i at) (omega arith);
         }
 
-  pub lining-done : length sizes ≤ i → sizes ≡ linedUp 0 sizes₀
+  pub lining-done : length sizes ≤ i → sizes ≡ linedUp from sizes₀
   unfolding linedUp
   lining-done h =
       let w = l .within in

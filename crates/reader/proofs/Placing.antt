@@ -1,6 +1,6 @@
 -- A declaration that is stored where its group goes on.
 -- Assumes nothing.
-use Prim.Native.Nat.{ℕ, _+_, _<_, _^_}
+use Prim.Native.Nat.{ℕ, _+_, _-_, _≤_, _<_, _^_}
 use native.Mathlib.Omega.{arith}
 use mathlib.Core.Path.{_≡_, refl, ap, sym, _∙_}
 use mathlib.Core.Bool.{Bool}
@@ -16,18 +16,19 @@ use Rattle.parser.specs.Steps.{Lays}
 use Rattle.tokens.specs.declared.Current.{Current}
 use Rattle.parser.proofs.Onward.{placed-in}
 use Rattle.reader.specs.Blocks.{Roomy}
-use Rattle.reader.specs.Places.{placeIn}
+use Rattle.reader.specs.Places.{placeIn, Begins}
 use Rattle.reader.specs.Directives.{memberBranches, Declares}
-use Rattle.reader.specs.Whole.{storedKinds, memberPlace, Begins, Places}
+use Rattle.reader.specs.Ahead.{kindAhead}
+use Rattle.reader.specs.Whole.{storedKinds, memberPlace, Places, groupCount}
 use Rattle.reader.specs.declared.directives.Seen.{Seen}
-use Rattle.reader.proofs.BlockGathered.{both-none, stores-sizes}
+use Rattle.reader.proofs.BlockGathered.{both-none, stores-sizes, lays-alone}
 use Rattle.reader.proofs.PlaceLaws.{place-within}
-use Rattle.reader.proofs.WholeLaws.{same-declared}
+use Rattle.reader.proofs.WholeLaws.{same-declared, declared-ahead}
 
 pub place-in : (k : ℕ) {p : ℕ} → p ≡ placeIn storedKinds k → p < 13
 place-in k e = let h = place-within storedKinds k in omega arith
 
-module _ {s : List ℕ} {t : Current} {ps qs : List ℕ} (b : Begins 0x10000000 s t ps qs) where
+module _ {s : List ℕ} {t : Current} {ps qs : List ℕ} (b : Begins groupCount 0x10000000 s t ps qs) where
   -- where a group goes on there is room, as there is at the start
   pub begins-roomy : (p : ℕ) → Roomy s t (getD ps p 0) (getD qs p 0)
   begins-roomy p =
@@ -45,7 +46,7 @@ lays-sizes {xs = xs} e f l = record { stores = stores-sizes (l .stores) refl ref
 
 module _ {k : Seen} {s : List ℕ} {t : Current} {es fs gs hs : List ℕ} {u : Current} {m y kind : ℕ} {top : Bool}
     (j : Declares (λ before. parseDeclaration before (stream s t)) k s t (lent 0 es 0 fs) u (lent m gs y hs) kind top) where
-  pub placed-small : {ps qs : List ℕ} → Begins 0x10000000 s t ps qs → (p : ℕ) → (getD ps p 0 + m < 2 ^ 64) × (getD qs p 0 + y < 2 ^ 64)
+  pub placed-small : {ps qs : List ℕ} → Begins groupCount 0x10000000 s t ps qs → (p : ℕ) → (getD ps p 0 + m < 2 ^ 64) × (getD qs p 0 + y < 2 ^ 64)
   placed-small b p =
       let a = b .words-few p in
       let c = b .bytes-few p in
@@ -97,3 +98,23 @@ module _ {k : Seen} {s : List ℕ} {t : Current} {es fs gs hs : List ℕ} {u : C
         let z : n ≡ getD ps p 0 + m = omega arith in
         let o : x ≡ getD qs p 0 + y = omega arith in
         placed-by a b (rw (z, o) at st)
+
+-- it is read once, where its group goes on
+module _ {k : Seen} {s : List ℕ} {t : Current} {n x : ℕ} {ws ts : List ℕ} {u : Current} {m y : ℕ} {vs us : List ℕ} {kind : ℕ} {top : Bool}
+    (j : Declares (λ before. parseDeclaration before (stream s t)) k s t (lent n ws x ts) u (lent m vs y us) kind top) where
+  pub once-on : (n ≤ m) × (x ≤ y)
+  once-on = let a = j .lays .stores .words-end in let b = j .lays .stores .texts-end in (omega arith, omega arith)
+
+  abbrev once-measured : Declares (λ before. parseDeclaration before (stream s t)) k s t (lent 0 [] 0 []) u (lent (m - n) [] (y - x) []) kind top
+  once-measured = record { value = j .value; gives = j .gives; onward = j .onward; kinds = j .kinds; tops = j .tops; named = j .named; lays = lays-alone (j .lays) }
+
+  module _ {ahead p : ℕ} (e : ahead ≡ kindAhead (stream s t)) (some : ahead ≡ 0 → ⊥) (at : p ≡ placeIn storedKinds ahead) where
+    once-place : memberPlace (j .value) ≡ p
+    once-place = ap (placeIn storedKinds) (declared-ahead k s t j e some) ∙ sym at
+
+    pub placed-once : {ps qs ps₁ qs₁ : List ℕ} → n ≡ getD ps p 0 → x ≡ getD qs p 0 → ps₁ ≡ set ps p m → qs₁ ≡ set qs p y → Places k s t ps qs ps₁ qs₁ ws ts vs us u (m - n) (y - x) kind top
+    placed-once en ex a b =
+        let o = once-on in
+        let c : n + (m - n) ≡ m = omega arith in
+        let d : x + (y - x) ≡ y = omega arith in
+        record { declares = once-measured; words-on = rw (once-place, ← en, c) a; bytes-on = rw (once-place, ← ex, d) b; stores = rw (once-place, ← en, ← ex, c, d) (j .lays .stores) }

@@ -25,9 +25,9 @@ use Rattle.parser.proofs.Ready.{flat-length}
 use Rattle.tokens.specs.Promise.{stream, startIn, LiesIn}
 use Rattle.tokens.proofs.Stream.{start-of}
 use Rattle.reader.specs.Groups.{allOf}
-use Rattle.reader.specs.Places.{sum, linedUp, Fills}
+use Rattle.reader.specs.Places.{sum, linedUp, Fills, Begins}
 use Rattle.reader.specs.Directives.{memberKind, memberBranches}
-use Rattle.reader.specs.Whole.{lastNames, storedKinds, memberPlace, HasNames, Names, NamesTo, NamedIs, Begins, Passes, Known, Read, onto}
+use Rattle.reader.specs.Whole.{lastNames, storedKinds, memberPlace, HasNames, Names, NamesTo, NamedIs, Passes, Known, Read, onto, groupCount}
 use Rattle.reader.specs.declared.whole.Noted.{Noted}
 use Rattle.reader.proofs.GroupSizes.{number, nodes-of, bytes-of, groups-weigh}
 use Rattle.reader.proofs.Grouping.{together}
@@ -103,7 +103,7 @@ module _ {s : List ℕ} {t last : Current} {noted : Noted} {count : ℕ} {ps qs 
           let h = names .stores .texts-end in
           (omega arith, omega arith)
 
-      pub pass-begins : Begins 0x1000000 s t (set ps₁ 11 k) (set qs₁ 11 x)
+      pub pass-begins : Begins groupCount 0x1000000 s t (set ps₁ 11 k) (set qs₁ 11 x)
       pass-begins =
           let a = words-sum in
           let b = bytes-sum in

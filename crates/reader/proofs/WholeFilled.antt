@@ -22,7 +22,7 @@ use Rattle.reader.specs.Whole.{storedKinds, memberPlace}
 use Rattle.reader.proofs.GroupSizes.{Nonzero}
 use Rattle.reader.proofs.TopPlaces.{stored-distinct}
 use Rattle.reader.proofs.Filling.{holds-first, holds-rest, holds-both, Put, written-holds, written-kept, written-behind, still-holds}
-use Rattle.reader.proofs.GroupPlaces.{Coding, first-on, front-less, group-held, front-more, lined-at, lined-length, sum-suc, places-are}
+use Rattle.reader.proofs.GroupPlaces.{Coding, first-on, front-less, group-held, front-more, lined-at, lined-length, sum-suc, places-are, size-append, size-none, sum-part}
 
 pub stored-positive : Nonzero storedKinds
 stored-positive =
@@ -50,22 +50,11 @@ none-behind (detectDelim ∷ ms) = none-behind ms
 -- ------------------------------------------------------------------ what is stored of nodes
 
 module _ (c : Coding) where
-  pub size-append : (a b : List Node) → c .size (a ++ b) ≡ c .size a + c .size b
-  size-append a b =
-      let e = ap length (c .more 0 a b) ∙ length-append (c .code 0 a) (c .code (0 + length (textsOf a)) b) in
-      let f = c .sized 0 (a ++ b) in
-      let g = c .sized 0 a in
-      let h = c .sized (0 + length (textsOf a)) b in
-      omega arith
-
-  pub size-none : c .size [] ≡ 0
-  size-none = let e = size-append [] [] in omega arith
-
   -- nothing is held anywhere
   holds-nothing : {whole : List ℕ} {at from : ℕ} {xs : List Node} → xs ≡ [] → at ≤ length whole → Holds whole at (c .code from xs)
   holds-nothing {whole} {at} {from} {xs} e h =
       let l = c .sized from xs in
-      let n = ap (c .size) e ∙ size-none in
+      let n = ap (c .size) e ∙ size-none c in
       record { within = omega arith; is = λ i q. absurd (omega arith) }
 
   -- nodes and more
@@ -101,13 +90,6 @@ behind-none ms = ap (flat nodes) (none-behind ms)
 first-none : (ms : List (Member ℕ)) → firstOf ms 0 ≡ []
 unfolding flat groupsOf
 first-none ms = refl
-
-sum-part : (xs : List ℕ) (g : ℕ) → sum (take g xs) ≤ sum xs
-unfolding sum
-sum-part [] zero = omega arith
-sum-part [] (suc g) = omega arith
-sum-part (x ∷ xs) zero = omega arith
-sum-part (x ∷ xs) (suc g) = let h = sum-part xs g in omega arith
 
 module _ (c : Coding) (ms : List (Member ℕ)) (xs : List ℕ) (all : length xs ≡ 13) (are : (g : ℕ) → g < 13 → getD xs g 0 ≡ c .size (groupOf ms g)) where
   sums-are : (i : ℕ) → i ≤ 12 → sum (take i xs) ≡ c .size (firstOf ms i)

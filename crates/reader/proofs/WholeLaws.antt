@@ -36,6 +36,8 @@ use Rattle.reader.specs.declared.directives.Declared.{Declared}
 use Rattle.reader.specs.declared.directives.Declared.the-variants.{Done, Refused}
 use Rattle.reader.specs.declared.whole.Noted.{Noted}
 use Rattle.reader.proofs.TopLaws.{beforeOf, before-seen, past-not, past-at, past-onward}
+use Rattle.reader.specs.Ahead.{kindAhead}
+use Rattle.reader.proofs.AheadLaws.{declaration-yields}
 
 -- ------------------------------------------------------------------ one more behind
 
@@ -203,6 +205,10 @@ module _ (k : Seen) (s : List ℕ) (t : Current) where
   -- a declaration that is read twice is the same
   pub same-declared : {a c d e : Lent} {u v : Current} {i j : ℕ} {x y : Bool} (f : Declares declarationAt k s t a u c i x) (g : Declares declarationAt k s t d v e j y) → f .value ≡ g .value
   same-declared f g = let p = f .gives (beforeOf k) (before-seen k) in let q = g .gives (beforeOf k) (before-seen k) in cc
+
+  -- it has the kind that its first tokens tell
+  pub declared-ahead : {a c : Lent} {u : Current} {i : ℕ} {x : Bool} (f : Declares declarationAt k s t a u c i x) {ahead : ℕ} → ahead ≡ kindAhead (stream s t) → (ahead ≡ 0 → ⊥) → memberKind (f .value) ≡ ahead
+  declared-ahead f e n = declaration-yields (beforeOf k) (stream s t) .are (f .value) _ (f .gives (beforeOf k) (before-seen k)) (λ z. n (e ∙ z)) ∙ sym e
 
   module _ (a : Lent) (ws ts : List ℕ) (r : Declared) (h : DeclaresTo declarationAt k s t a ws ts r) where
     pub declared-at : {u : Current} {n x kind : ℕ} {top : Bool} → r ≡ Done u n x kind top → Declares declarationAt k s t a u (lent n ws x ts) kind top

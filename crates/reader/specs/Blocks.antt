@@ -4,7 +4,7 @@ use Prim.Native.Nat.{ℕ, _+_, _*_, _≤_}
 use mathlib.Core.Path.{_≡_}
 use mathlib.Core.Bool.{Bool, true, false}
 use mathlib.Core.List.{List, [], _∷_}
-use lib.ListN.{length}
+use lib.ListN.{length, getD, set}
 use Rattle.basics.specs.Basics.{isEmpty, picked}
 use Rattle.error.specs.Promise.{causeNumber}
 use Rattle.tree.specs.Records.{Branch, nodes}
@@ -14,14 +14,17 @@ use Rattle.notation.specs.Parser.{Answer, read, refused, Parser, eat, until}
 use Rattle.notation.specs.Members.{TokenMember, LocalMember, SkipMember, ExternalMember, localFallback}
 use Rattle.notation.specs.Declarations.{parseTokenMember, parseLocalMember, parseExternalMember, parseSkipMember}
 use Rattle.tokens.specs.Promise.{stream, LiesIn}
-use Rattle.parser.specs.Storing.{Lent, lent, flat}
+use Rattle.parser.specs.Storing.{Lent, lent, Stores, flat}
 use Rattle.parser.specs.Steps.{placed, Onward, Lays, betweenBy}
 use Rattle.tokens.specs.declared.Current.{Current}
 use Rattle.parser.specs.declared.props.Comma.{Comma}
 use Rattle.parser.specs.declared.props.Comma.the-variants.{May, No}
 use Rattle.parser.specs.declared.props.Parsed.{Parsed}
 use Rattle.parser.specs.declared.props.Parsed.the-variants as P
-use Rattle.reader.specs.Groups.{chosen, MeasuredAs}
+use Rattle.parser.specs.declared.props.Listed.{Listed}
+use Rattle.parser.specs.declared.props.Listed.the-variants as L
+use Rattle.reader.specs.Groups.{chosen, allOf, Gathers, MeasuredAs}
+use Rattle.reader.specs.Places.{placeIn, Fills}
 use Rattle.reader.specs.declared.blocks.Block.{Block}
 use Rattle.reader.specs.declared.blocks.Block.the-variants.{Tokens, LocalTokens, ExternalTokens, Specializer, Skip}
 use Rattle.reader.specs.declared.blocks.Joined.{Joined}
@@ -135,3 +138,33 @@ pub record Roomy (s : List ℕ) (t : Current) (n x : ℕ) : Type 0 where
   pub small : length s ≤ 0x10000
   pub room : n + 14 * length s ≤ 0x20000000 + 14 * placed s t
   pub space : x + 3 * length s ≤ 0x20000000 + 3 * placed s t
+
+-- ------------------------------------------------------------------ groups at their places
+
+-- the group of a member, among four at most
+abbrev pub placeOf : (b : Block) → MemberOf b → ℕ
+placeOf b m = placeIn (kindsOf b) (kindOf b m)
+
+abbrev pub blockCount : ℕ
+blockCount = 4
+
+-- a member is read that takes so many words and bytes, and it is stored where its group goes on
+pub record Settles (b : Block) (free : Bool) (s : List ℕ) (t : Current) (ps qs ps₁ qs₁ ws ts vs us : List ℕ) (u : Current) (words bytes count kind : ℕ) : Type 0 where
+  pub joins : Joins b 0 free s t (lent 0 [] 0 []) u (lent words [] bytes []) count kind
+  pub words-on : ps₁ ≡ set ps (placeOf b (joins .value)) (getD ps (placeOf b (joins .value)) 0 + words)
+  pub bytes-on : qs₁ ≡ set qs (placeOf b (joins .value)) (getD qs (placeOf b (joins .value)) 0 + bytes)
+  pub stores : Stores (flat nodes (branchesOf b (joins .value))) (lent (getD ps (placeOf b (joins .value)) 0) ws (getD qs (placeOf b (joins .value)) 0) ts)
+      (lent (getD ps (placeOf b (joins .value)) 0 + words) vs (getD qs (placeOf b (joins .value)) 0 + bytes) us)
+
+abbrev pub SettlesTo : (b : Block) → (free : Bool) → List ℕ → Current → (ps qs ps₁ qs₁ ws ts vs us : List ℕ) → Joined → Type 0
+SettlesTo b f s t ps qs ps₁ qs₁ ws ts vs us (Done u n x count kind) = Settles b f s t ps qs ps₁ qs₁ ws ts vs us u n x count kind
+SettlesTo b f s t ps qs ps₁ qs₁ ws ts vs us (Refused c p) = (before : List (MemberOf b)) → Free b before f → memberOf b before (stream s t) ≡ refused (causeNumber c) p
+
+-- all members are read, which take so many words and bytes, and their groups are filled in
+pub record Spreads (b : Block) (s : List ℕ) (t : Current) (ps qs ps₁ qs₁ ws ts vs us : List ℕ) (u : Current) (words bytes count : ℕ) : Type 0 where
+  pub gathers : Gathers (membersOf b (stream s t)) (allOf (kindOf b) (branchesOf b) 0) s t 1 (lent 0 [] 0 []) u (lent words [] bytes []) count
+  pub fills : Fills (placeOf b) (branchesOf b) blockCount (gathers .members) ps qs ps₁ qs₁ ws ts vs us
+
+abbrev pub SpreadsTo : (b : Block) → List ℕ → Current → (ps qs ps₁ qs₁ ws ts vs us : List ℕ) → Listed → Type 0
+SpreadsTo b s t ps qs ps₁ qs₁ ws ts vs us (L.Done u n x count) = Spreads b s t ps qs ps₁ qs₁ ws ts vs us u n x count
+SpreadsTo b s t ps qs ps₁ qs₁ ws ts vs us (L.Refused c p) = membersOf b (stream s t) ≡ refused (causeNumber c) p

@@ -8,6 +8,8 @@ use lib.Dec.{eqb}
 use lib.ListN.{length, getD}
 use Rattle.basics.specs.Basics.{if_then_else_}
 use Rattle.tree.specs.Records.{Branch, nodes, width, recordsFrom, words, textsOf}
+use Rattle.tokens.specs.Promise.{LiesIn}
+use Rattle.tokens.specs.declared.Current.{Current}
 use Rattle.parser.specs.Storing.{flat}
 
 -- where a kind stands among kinds, or behind them all
@@ -56,3 +58,17 @@ sum (x ∷ xs) = x + sum xs
 unfoldable pub linedUp : (from : ℕ) → List ℕ → List ℕ
 linedUp at [] = []
 linedUp at (x ∷ xs) = at ∷ linedUp (at + x) xs
+
+-- no part has a size yet
+pub record Blank (count : ℕ) (sizes : List ℕ) : Type 0 where
+  pub all : length sizes ≡ count
+  pub none : (g : ℕ) → getD sizes g 0 ≡ 0
+
+-- each group has a place in the words and one in the bytes, none of them past a limit, and the text is short
+pub record Begins (count limit : ℕ) (s : List ℕ) (t : Current) (wordPlaces bytePlaces : List ℕ) : Type 0 where
+  pub lies : LiesIn s 0 t
+  pub small : length s ≤ 0x10000
+  pub words-all : length wordPlaces ≡ count
+  pub bytes-all : length bytePlaces ≡ count
+  pub words-few : (g : ℕ) → getD wordPlaces g 0 ≤ limit
+  pub bytes-few : (g : ℕ) → getD bytePlaces g 0 ≤ limit

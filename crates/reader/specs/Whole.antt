@@ -101,15 +101,6 @@ memberPlace m = placeIn storedKinds (memberKind m)
 abbrev pub groupCount : ℕ
 groupCount = 13
 
--- each group has a place in the words and one in the bytes, none of them past a limit, and the text is short
-pub record Begins (limit : ℕ) (s : List ℕ) (t : Current) (wordPlaces bytePlaces : List ℕ) : Type 0 where
-  pub lies : LiesIn s 0 t
-  pub small : length s ≤ 0x10000
-  pub words-all : length wordPlaces ≡ groupCount
-  pub bytes-all : length bytePlaces ≡ groupCount
-  pub words-few : (g : ℕ) → getD wordPlaces g 0 ≤ limit
-  pub bytes-few : (g : ℕ) → getD bytePlaces g 0 ≤ limit
-
 -- with these kinds before, a declaration is read that takes so many words and bytes, and it is stored where its group goes on
 pub record Places (k : Seen) (s : List ℕ) (t : Current) (ps qs ps₁ qs₁ ws ts vs us : List ℕ) (u : Current) (words bytes kind : ℕ) (top : Bool) : Type 0 where
   pub declares : Declares (λ before. parseDeclaration before (stream s t)) k s t (lent 0 [] 0 []) u (lent words [] bytes []) kind top
@@ -157,11 +148,6 @@ NamesTo s n a ws ts (L.Done u m x count) = (ns : List (Identifier ℕ)) → Name
 NamesTo s n a ws ts (L.Refused c p) = ⊥
 
 -- ------------------------------------------------------------------ what is measured
-
--- no group has a size yet
-pub record Blank (sizes : List ℕ) : Type 0 where
-  pub all : length sizes ≡ groupCount
-  pub none : (g : ℕ) → getD sizes g 0 ≡ 0
 
 -- the sizes of the groups of members, in words and in bytes
 pub record Sizes (ms : List (Member ℕ)) (words bytes : List ℕ) : Type 0 where

@@ -11,14 +11,16 @@ use tokens::Arrived;
 use tokens::Current;
 use tokens::Eaten;
 use tokens::Part;
+ghost use Prim.Native.Nat.{_+_, _<_, _^_};
 ghost use mathlib.Core.Path.{_≡_};
-ghost use lib.ListN.{getD};
-ghost use Rattle.tokens.specs.Promise.{stream};
+ghost use Rattle.tokens.specs.Promise.{stream, LiesIn};
 ghost use Rattle.parser.specs.Storing.{lent};
 ghost use Rattle.parser.specs.Steps.{Ready, betweenBy};
 ghost use Rattle.notation.specs.Declarations.{block as blockD};
 ghost use Rattle.reader.specs.Groups.{allOf, groupsOf, GathersTo};
-ghost use Rattle.reader.specs.Blocks.{kindOf, branchesOf, kindsOf, commaOf, memberOf, membersOf, JoinsTo, Measured, Roomy, oneOf};
+ghost use Rattle.reader.specs.Places.{placeIn, sum, linedUp, Blank, Begins};
+ghost use Rattle.reader.specs.Blocks.{kindOf, branchesOf, kindsOf, commaOf, memberOf, membersOf, JoinsTo, blockCount, SettlesTo, SpreadsTo, Roomy, oneOf};
+ghost use Rattle.reader.specs.Ahead.{memberAhead};
 ghost use Rattle.reader.specs.declared.blocks.Block.the-variants.{Tokens, LocalTokens, ExternalTokens, Skip};
 
 // A block whose members are stored in groups.
@@ -296,80 +298,191 @@ pub fn members_list(
     }
 }
 
-// The kind of a block's group at a place, or 0 behind the last.
-fn group(block: Block, i: usize) -> u32
-    ensures { λ r. ⌜ r ≡ getD (kindsOf block) i 0 ⌝ }
+// The group of a member of a block, from its first tokens. `free`: an `@else` still makes a fallback.
+fn group_ahead(source: &[u8], block: Block, token: Current, free: bool) -> usize
+    requires { ⌜ LiesIn (now source) 0 token ⌝ }
+    ensures { λ r. ⌜ r ≡ placeIn (kindsOf block) (memberAhead block free (stream (now (source .entry)) token)) ⌝ }
 {
+    let at = tokens::at(token);
     match block {
-        Block::Tokens => match i {
-            0 => 9,
-            1 => 10,
-            2 => 3,
-            3 => 11,
-            _ => 0,
+        Block::Tokens => match tokens::string(token) {
+            Part::From(_, _) => 3,
+            Part::Nothing => {
+                if tokens::says(source, at, b"precedence") {
+                    return 0;
+                }
+                if tokens::says(source, at, b"conflict") {
+                    return 1;
+                }
+                2
+            }
         },
-        Block::LocalTokens => match i {
-            0 => 9,
-            1 => 3,
-            2 => 13,
-            _ => 0,
-        },
-        Block::ExternalTokens => match i {
-            0 => 13,
-            1 => 17,
-            _ => 0,
-        },
-        Block::Specializer => match i {
-            0 => 13,
-            _ => 0,
-        },
-        Block::Skip => match i {
-            0 => 2,
-            1 => 3,
-            _ => 0,
-        },
+        Block::LocalTokens => {
+            if tokens::says(source, at, b"precedence") {
+                return 0;
+            }
+            if free {
+                if tokens::says(source, at, b"else") {
+                    return 2;
+                }
+            }
+            1
+        }
+        Block::ExternalTokens => {
+            if tokens::says(source, at, b"conflict") {
+                return 1;
+            }
+            0
+        }
+        Block::Specializer => 0,
+        Block::Skip => {
+            if tokens::says(source, at, b"top") {
+                return 0;
+            }
+            1
+        }
     }
 }
 
-// The groups of a block one after another, each in a pass over its members, which end before the token `last`.
-fn groups(
+// A member, stored where its group goes on, and how much it takes; the places of the group move on.
+fn member_placed(
     source: &[u8],
     block: Block,
     token: Current,
-    last: Current,
+    free: bool,
+    words: &mut [usize],
+    bytes: &mut [usize],
+    records: &mut [u32],
+    texts: &mut [u8],
+) -> Joined
+    requires { ⌜ Begins blockCount 0x30000000 (now source) token (now words) (now bytes) ⌝ }
+    ensures { λ r. ⌜ SettlesTo block free (now (source .entry)) token (now (words .entry)) (now (bytes .entry)) (now (words .exit)) (now (bytes .exit))
+        (now (records .entry)) (now (texts .entry)) (now (records .exit)) (now (texts .exit)) r ⌝ }
+{
+    let p = group_ahead(source, block, token, free);
+    let n = words[p];
+    let x = bytes[p];
+    match member(source, block, token, free, records, n, texts, x) {
+        Joined::Refused(cause, at) => Joined::Refused(cause, at),
+        Joined::Done(u, m, y, count, kind) => {
+            words[p] = m;
+            bytes[p] = y;
+            Joined::Done(u, m - n, y - x, count, kind)
+        }
+    }
+}
+
+// The members of a block up to its brace, each stored where its group goes on, and how much they take.
+fn members_pass(
+    source: &[u8],
+    block: Block,
+    token: Current,
+    words: &mut [usize],
+    bytes: &mut [usize],
+    records: &mut [u32],
+    texts: &mut [u8],
+) -> Listed
+    requires { ⌜ Begins blockCount 0x28000000 (now source) token (now words) (now bytes) ⌝ }
+    ensures { λ r. ⌜ SpreadsTo block (now (source .entry)) token (now (words .entry)) (now (bytes .entry)) (now (words .exit)) (now (bytes .exit))
+        (now (records .entry)) (now (texts .entry)) (now (records .exit)) (now (texts .exit)) r ⌝ }
+{
+    let mut t = token;
+    let mut m: usize = 0;
+    let mut y: usize = 0;
+    let mut count: usize = 0;
+    let mut children: usize = 0;
+    let mut free = true;
+    loop {
+        match props::opening(source, t, 0x7D, comma(block), count) {
+            Opened::Closed(u) => {
+                return Listed::Done(u, m, y, children);
+            }
+            Opened::Refused(cause, at) => {
+                return Listed::Refused(cause, at);
+            }
+            Opened::Item(u) => match member_placed(
+                source,
+                block,
+                u,
+                free,
+                words,
+                bytes,
+                records,
+                texts,
+            ) {
+                Joined::Refused(cause, at) => {
+                    return Listed::Refused(cause, at);
+                }
+                Joined::Done(v, k, z, more, kind) => {
+                    t = v;
+                    m += k;
+                    y += z;
+                    count += 1;
+                    children += more;
+                    free = free && kind != 13;
+                }
+            },
+        }
+    }
+}
+
+// Sizes become places: each begins where the one before it ends, and the first at `from`.
+pub fn line_up(sizes: &mut [usize], from: usize)
+    requires { ⌜ from + sum (now sizes) < 2 ^ 64 ⌝ }
+    ensures { λ _. ⌜ now (sizes .exit) ≡ linedUp from (now (sizes .entry)) ⌝ }
+{
+    let mut at = from;
+    let mut i: usize = 0;
+    while i < sizes.len() {
+        let size = sizes[i];
+        sizes[i] = at;
+        at += size;
+        i += 1;
+    }
+}
+
+// The members of a block, with room for the sizes of its groups. A first pass, over nothing, measures each group; a second stores each member in its
+// group. Where nothing is lent the first is enough.
+fn parse_members(
+    source: &[u8],
+    block: Block,
+    token: Current,
+    words: &mut [usize],
+    bytes: &mut [usize],
     records: &mut [u32],
     n: usize,
     texts: &mut [u8],
     x: usize,
 ) -> Listed
-    requires { ⌜ Roomy (now source) token n x × Measured block (now source) token last ⌝ }
+    requires { ⌜ Roomy (now source) token n x × Blank blockCount (now words) × Blank blockCount (now bytes) ⌝ }
     ensures { λ r. ⌜ GathersTo (membersOf block (stream (now (source .entry)) token)) (groupsOf (kindOf block) (branchesOf block) (kindsOf block)) (now (source .entry)) token 1
         (lent n (now (records .entry)) x (now (texts .entry))) (now (records .exit)) (now (texts .exit)) r ⌝ }
 {
-    let mut m = n;
-    let mut y = x;
-    let mut children: usize = 0;
-    let mut i: usize = 0;
-    loop {
-        let want = group(block, i);
-        if want == 0 {
-            return Listed::Done(last, m, y, children);
-        }
-        match members_list(source, block, want, token, records, m, texts, y) {
-            Listed::Refused(cause, at) => {
-                return Listed::Refused(cause, at);
+    match members_pass(
+        source,
+        block,
+        token,
+        words,
+        bytes,
+        &mut records[..0],
+        &mut texts[..0],
+    ) {
+        Listed::Refused(cause, at) => Listed::Refused(cause, at),
+        Listed::Done(v, m, y, children) => {
+            if records.len() == 0 && texts.len() == 0 {
+                return Listed::Done(v, n + m, x + y, children);
             }
-            Listed::Done(_, k, z, more) => {
-                m = k;
-                y = z;
-                children += more;
-                i += 1;
+            line_up(words, n);
+            line_up(bytes, x);
+            match members_pass(source, block, token, words, bytes, records, texts) {
+                Listed::Refused(cause, at) => Listed::Refused(cause, at),
+                Listed::Done(_, _, _, _) => Listed::Done(v, n + m, x + y, children),
             }
         }
     }
 }
 
-// A block in braces. A first pass measures all members; where nothing is lent that is enough.
+// A block in braces.
 pub fn parse_block(
     source: &[u8],
     block: Block,
@@ -386,24 +499,19 @@ pub fn parse_block(
     match tokens::expect_punctuation(source, token, 0x7B) {
         Arrived::Refused(cause, at) => Listed::Refused(cause, at),
         Arrived::At(u) => {
-            match members_list(
+            let mut words = [0usize; 4];
+            let mut bytes = [0usize; 4];
+            parse_members(
                 source,
                 block,
-                0,
                 u,
-                &mut records[..0],
+                &mut words,
+                &mut bytes,
+                records,
                 n,
-                &mut texts[..0],
+                texts,
                 x,
-            ) {
-                Listed::Refused(cause, at) => Listed::Refused(cause, at),
-                Listed::Done(v, m, y, children) => {
-                    if records.len() == 0 && texts.len() == 0 {
-                        return Listed::Done(v, m, y, children);
-                    }
-                    groups(source, block, u, v, records, n, texts, x)
-                }
-            }
+            )
         }
     }
 }

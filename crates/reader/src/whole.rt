@@ -1,4 +1,5 @@
 // The whole of a grammar file, from its first token on. A first pass measures each group; a second stores each declaration in its group.
+use crate::blocks;
 use crate::directives::Declared;
 use crate::directives::Seen;
 use crate::top;
@@ -8,17 +9,20 @@ use parser::props::Listed;
 use parser::store;
 use tokens::Arrived;
 use tokens::Current;
-ghost use Prim.Native.Nat.{_≤_, _<_, _^_};
+use tokens::Part;
+ghost use Prim.Native.Nat.{_≤_};
 ghost use mathlib.Core.Path.{_≡_};
 ghost use mathlib.Core.Bool.{_||_};
 ghost use lib.Dec.{eqb};
 ghost use Rattle.basics.specs.Basics.{if_then_else_};
 ghost use lib.ListN.{length};
 ghost use Rattle.tree.specs.Stored.{flag as flagD};
-ghost use Rattle.tokens.specs.Promise.{LiesIn};
+ghost use Rattle.notation.specs.Parser.{next as nextD};
+ghost use Rattle.tokens.specs.Promise.{stream, LiesIn, Whole as Spelled, textIn};
 ghost use Rattle.parser.specs.Storing.{lent};
-ghost use Rattle.reader.specs.Places.{placeIn, sum, linedUp};
-ghost use Rattle.reader.specs.Whole.{Begins, PlacesTo, recordsOf, noteOf, PassesTo, HasNames, NamesTo, storedKinds, Blank, Known, First, Reads};
+ghost use Rattle.reader.specs.Places.{placeIn, Blank, Begins};
+ghost use Rattle.reader.specs.Ahead.{externalKind, externalAhead, kindAhead};
+ghost use Rattle.reader.specs.Whole.{groupCount, PlacesTo, recordsOf, noteOf, PassesTo, HasNames, NamesTo, storedKinds, Known, First, Reads};
 
 // What a pass has seen: which kinds, a top rule, `@detectDelim`, a list of dialects, and where the last one begins.
 pub struct Noted {
@@ -70,9 +74,9 @@ fn place(kind: u32) -> usize
     }
 }
 
-// A declaration, stored where its group goes on, and how much it takes; the places of the group move on. A first reading, over nothing,
-// shows its kind, and is enough where nothing is lent.
-fn declaration_placed(
+// A declaration whose kind is not known ahead, stored where its group goes on, and how much it takes; the places of the group move on. A
+// first reading, over nothing, shows its kind, and is enough where nothing is lent.
+fn declaration_measured(
     source: &[u8],
     token: Current,
     seen: Seen,
@@ -81,7 +85,7 @@ fn declaration_placed(
     records: &mut [u32],
     texts: &mut [u8],
 ) -> Declared
-    requires { ⌜ Begins 0x10000000 (now source) token (now words) (now bytes) ⌝ }
+    requires { ⌜ Begins groupCount 0x10000000 (now source) token (now words) (now bytes) ⌝ }
     ensures { λ r. ⌜ PlacesTo seen (now (source .entry)) token (now (words .entry)) (now (bytes .entry)) (now (words .exit)) (now (bytes .exit))
         (now (records .entry)) (now (texts .entry)) (now (records .exit)) (now (texts .exit)) r ⌝ }
 {
@@ -108,6 +112,106 @@ fn declaration_placed(
                 Declared::Refused(cause, at) => Declared::Refused(cause, at),
                 Declared::Done(_, _, _, _, _) => Declared::Done(u, m, y, kind, holds),
             }
+        }
+    }
+}
+
+// The kind of an external declaration, from the name after `@external`; 0 where it is not known.
+fn external_kind(source: &[u8], name: Part) -> u32
+    requires { ⌜ Spelled (now source) name ⌝ }
+    ensures { λ r. ⌜ r ≡ externalKind (textIn (now (source .entry)) name) ⌝ }
+{
+    if tokens::says(source, name, b"tokens") {
+        return 16;
+    }
+    if tokens::says(source, name, b"prop") {
+        return 25;
+    }
+    if tokens::says(source, name, b"extend") {
+        return 18;
+    }
+    if tokens::says(source, name, b"specialize") {
+        return 18;
+    }
+    if tokens::says(source, name, b"propSource") {
+        return 19;
+    }
+    0
+}
+
+// The kind of what stands at `@external`.
+fn external_ahead(source: &[u8], token: Current) -> u32
+    ensures { λ r. ⌜ r ≡ externalAhead (nextD (stream (now (source .entry)) token)) ⌝ }
+{
+    match tokens::next(source, token) {
+        Arrived::Refused(_, _) => 0,
+        Arrived::At(u) => external_kind(source, tokens::name(u)),
+    }
+}
+
+// The kind of a declaration, from its first tokens; 0 where it is not known.
+fn kind_ahead(source: &[u8], token: Current) -> u32
+    requires { ⌜ LiesIn (now source) 0 token ⌝ }
+    ensures { λ r. ⌜ r ≡ kindAhead (stream (now (source .entry)) token) ⌝ }
+{
+    let at = tokens::at(token);
+    if tokens::says(source, at, b"top") {
+        return 2;
+    }
+    if tokens::says(source, at, b"tokens") {
+        return 8;
+    }
+    if tokens::says(source, at, b"local") {
+        return 12;
+    }
+    if tokens::says(source, at, b"context") {
+        return 14;
+    }
+    if tokens::says(source, at, b"external") {
+        return external_ahead(source, token);
+    }
+    if tokens::says(source, at, b"dialects") {
+        return 24;
+    }
+    if tokens::says(source, at, b"precedence") {
+        return 20;
+    }
+    if tokens::says(source, at, b"detectDelim") {
+        return 1;
+    }
+    match at {
+        Part::Nothing => 3,
+        Part::From(_, _) => 0,
+    }
+}
+
+// A declaration, stored where its group goes on, and how much it takes; the places of the group move on.
+fn declaration_placed(
+    source: &[u8],
+    token: Current,
+    seen: Seen,
+    words: &mut [usize],
+    bytes: &mut [usize],
+    records: &mut [u32],
+    texts: &mut [u8],
+) -> Declared
+    requires { ⌜ Begins groupCount 0x10000000 (now source) token (now words) (now bytes) ⌝ }
+    ensures { λ r. ⌜ PlacesTo seen (now (source .entry)) token (now (words .entry)) (now (bytes .entry)) (now (words .exit)) (now (bytes .exit))
+        (now (records .entry)) (now (texts .entry)) (now (records .exit)) (now (texts .exit)) r ⌝ }
+{
+    let ahead = kind_ahead(source, token);
+    if ahead == 0 {
+        return declaration_measured(source, token, seen, words, bytes, records, texts);
+    }
+    let p = place(ahead);
+    let n = words[p];
+    let x = bytes[p];
+    match top::parse_declaration(source, token, seen, records, n, texts, x) {
+        Declared::Refused(cause, at) => Declared::Refused(cause, at),
+        Declared::Done(u, m, y, kind, holds) => {
+            words[p] = m;
+            bytes[p] = y;
+            Declared::Done(u, m - n, y - x, kind, holds)
         }
     }
 }
@@ -164,7 +268,7 @@ fn pass(
     records: &mut [u32],
     texts: &mut [u8],
 ) -> Passed
-    requires { ⌜ Begins 0x1000000 (now source) token (now words) (now bytes) ⌝ }
+    requires { ⌜ Begins groupCount 0x1000000 (now source) token (now words) (now bytes) ⌝ }
     ensures { λ r. ⌜ PassesTo (now (source .entry)) token (now (words .entry)) (now (bytes .entry)) (now (words .exit)) (now (bytes .exit))
         (now (records .entry)) (now (texts .entry)) (now (records .exit)) (now (texts .exit)) r ⌝ }
 {
@@ -230,21 +334,6 @@ fn dialects(
     }
 }
 
-// Sizes become places: each begins where the one before it ends.
-fn line_up(sizes: &mut [usize])
-    requires { ⌜ sum (now sizes) < 2 ^ 64 ⌝ }
-    ensures { λ _. ⌜ now (sizes .exit) ≡ linedUp 0 (now (sizes .entry)) ⌝ }
-{
-    let mut at: usize = 0;
-    let mut i: usize = 0;
-    while i < sizes.len() {
-        let size = sizes[i];
-        sizes[i] = at;
-        at += size;
-        i += 1;
-    }
-}
-
 fn flag(b: bool) -> u32
     ensures { λ r. ⌜ r ≡ flagD b ⌝ }
 {
@@ -269,8 +358,8 @@ fn store(
     requires { ⌜ (length (now source) ≤ 0x10000) × LiesIn (now source) 0 token × Known (now source) token last noted count (now words) (now bytes) (now records) (now texts) ⌝ }
     ensures { λ r. ⌜ Reads (now (source .entry)) (now (records .entry)) (now (texts .entry)) (now (records .exit)) (now (texts .exit)) r ⌝ }
 {
-    line_up(words);
-    line_up(bytes);
+    blocks::line_up(words, 0);
+    blocks::line_up(bytes, 0);
     let m = words[11];
     let y = bytes[11];
     match dialects(source, noted, records, m, texts, y) {
@@ -307,7 +396,7 @@ fn parse_over(
     records: &mut [u32],
     texts: &mut [u8],
 ) -> Whole
-    requires { ⌜ (length (now source) ≤ 0x10000) × First (now source) token × Blank (now words) × Blank (now bytes) ⌝ }
+    requires { ⌜ (length (now source) ≤ 0x10000) × First (now source) token × Blank groupCount (now words) × Blank groupCount (now bytes) ⌝ }
     ensures { λ r. ⌜ Reads (now (source .entry)) (now (records .entry)) (now (texts .entry)) (now (records .exit)) (now (texts .exit)) r ⌝ }
 {
     match pass(

@@ -1,69 +1,19 @@
 -- `whole::declaration_placed` meets its contract.
 -- Assumes nothing.
 use native.Mathlib.Omega.{arith}
-use mathlib.Core.Path.{refl, ap, sym, _∙_}
+use mathlib.Core.Path.{refl}
 use lib.ListN.{length}
-use Rattle.reader.proofs.MemberLaws.{no-words, no-texts}
-use Rattle.reader.proofs.BlockGathered.{is-zero}
 use Rattle.reader.proofs.WholeLaws.{declared-at, declared-not}
-use Rattle.reader.proofs.Placing.{place-in, begins-roomy, begins-first, placed-small, placed-none, placed-some}
+use Rattle.reader.proofs.Placing.{place-in, begins-roomy, once-on, placed-once}
 use borrow.Author.Needs.{needs}
 use Rattle.reader.proofs.whole.declaration_placed.Statement.{statement}
 use Rattle.reader.proofs.whole.declaration_placed.Tie as tie
 
-slice-relend-prefix-parse-declaration : tie.Need-slice-relend-prefix-parse-declaration
-slice-relend-prefix-parse-declaration c = search needs
+kind-ahead-requires : tie.Need-kind-ahead-requires
+kind-ahead-requires c κs = search needs
 
-slice-aggregate-parse-declaration : tie.Need-slice-aggregate-parse-declaration
-slice-aggregate-parse-declaration c = search needs
-
-slice-relend-prefix-parse-declaration-2 : tie.Need-slice-relend-prefix-parse-declaration-2
-slice-relend-prefix-parse-declaration-2 c = search needs
-
-slice-aggregate-parse-declaration-2 : tie.Need-slice-aggregate-parse-declaration-2
-slice-aggregate-parse-declaration-2 c = search needs
-
-parse-declaration-requires : tie.Need-parse-declaration-requires
-parse-declaration-requires c κs = begins-first (c .before .before .before .before .before .before .before .pre)
-
-enum-known-cause : tie.Need-enum-known-cause
-enum-known-cause c = search needs
-
-enum-known-u : tie.Need-enum-known-u
-enum-known-u c = search needs
-
-place-requires : tie.Need-place-requires
-place-requires c κs = search needs
-
-mul-n : tie.Need-mul-n
-mul-n c = let k = place-in _ (c .place .ensures) in let a = c .before .before .before .before .before .before .before .before .before .before .before .before .before .before .before .before .pre .words-all in let b = c .before .before .before .before .before .before .before .before .before .before .before .before .before .before .before .before .pre .bytes-all in omega arith
-
-slice-read-n : tie.Need-slice-read-n
-slice-read-n c = let k = place-in _ (c .before .place .ensures) in let a = c .before .before .before .before .before .before .before .before .before .before .before .before .before .before .before .before .before .pre .words-all in let b = c .before .before .before .before .before .before .before .before .before .before .before .before .before .before .before .before .before .pre .bytes-all in omega arith
-
-mul-x : tie.Need-mul-x
-mul-x c = let k = place-in _ (c .before .place .ensures) in let a = c .before .before .before .before .before .before .before .before .before .before .before .before .before .before .before .before .before .pre .words-all in let b = c .before .before .before .before .before .before .before .before .before .before .before .before .before .before .before .before .before .pre .bytes-all in omega arith
-
-slice-read-x : tie.Need-slice-read-x
-slice-read-x c = let k = place-in _ (c .before .before .place .ensures) in let a = c .before .before .before .before .before .before .before .before .before .before .before .before .before .before .before .before .before .before .pre .words-all in let b = c .before .before .before .before .before .before .before .before .before .before .before .before .before .before .before .before .before .before .pre .bytes-all in omega arith
-
-add-words : tie.Need-add-words
-add-words c = let j = declared-at _ _ _ _ _ _ (c .before .before .before .before .before .before .before .before .before .before .parse-declaration .result) (c .before .before .before .before .before .before .before .before .before .before .parse-declaration .ensures) (c .before .before .before .before .u .given .1) in let k = placed-small j (c .before .before .before .before .before .before .before .before .before .before .before .before .before .before .before .before .before .before .pre) (c .before .before .place .result) .0 in omega arith
-
-mul-words : tie.Need-mul-words
-mul-words c = let k = place-in _ (c .before .before .place .ensures) in let a = c .before .before .before .before .before .before .before .before .before .before .before .before .before .before .before .before .before .before .pre .words-all in let b = c .before .before .before .before .before .before .before .before .before .before .before .before .before .before .before .before .before .before .pre .bytes-all in omega arith
-
-slice-write-words : tie.Need-slice-write-words
-slice-write-words c = let k = place-in _ (c .before .before .place .ensures) in let a = c .before .before .before .before .before .before .before .before .before .before .before .before .before .before .before .before .before .before .pre .words-all in let b = c .before .before .before .before .before .before .before .before .before .before .before .before .before .before .before .before .before .before .pre .bytes-all in omega arith
-
-add-bytes : tie.Need-add-bytes
-add-bytes c = let j = declared-at _ _ _ _ _ _ (c .before .before .before .before .before .before .before .before .before .before .parse-declaration .result) (c .before .before .before .before .before .before .before .before .before .before .parse-declaration .ensures) (c .before .before .before .before .u .given .1) in let k = placed-small j (c .before .before .before .before .before .before .before .before .before .before .before .before .before .before .before .before .before .before .pre) (c .before .before .place .result) .1 in omega arith
-
-mul-bytes : tie.Need-mul-bytes
-mul-bytes c = let k = place-in _ (c .before .before .place .ensures) in let a = c .before .before .before .before .before .before .before .before .before .before .before .before .before .before .before .before .before .before .pre .words-all in let b = c .before .before .before .before .before .before .before .before .before .before .before .before .before .before .before .before .before .before .pre .bytes-all in omega arith
-
-slice-write-bytes : tie.Need-slice-write-bytes
-slice-write-bytes c = let k = place-in _ (c .before .before .place .ensures) in let a = c .before .before .before .before .before .before .before .before .before .before .before .before .before .before .before .before .before .before .pre .words-all in let b = c .before .before .before .before .before .before .before .before .before .before .before .before .before .before .before .before .before .before .pre .bytes-all in omega arith
+declaration-measured-requires : tie.Need-declaration-measured-requires
+declaration-measured-requires c κs = search needs
 
 same-length : tie.Need-same-length
 same-length c = search needs
@@ -78,16 +28,49 @@ same-length-4 : tie.Need-same-length-4
 same-length-4 c = search needs
 
 returns : tie.Need-returns
-returns c = let j = declared-at _ _ _ _ _ _ (c .before .before .before .before .before .before .before .before .before .before .before .before .parse-declaration .result) (c .before .before .before .before .before .before .before .before .before .before .before .before .parse-declaration .ensures) (c .before .before .before .before .before .before .u .given .1) in let v = no-words (j .lays .stores) refl (c .before .before .before .before .before .before .before .before .before .before .before .before .before .before .before .before .before .before .before .before .args .records .now) in let w = no-texts (j .lays .stores) refl (c .before .before .before .before .before .before .before .before .before .before .before .before .before .before .before .before .before .before .before .before .args .texts .now) in placed-none j refl refl (c .before .before .before .before .place .ensures) (sym (ap length v) ∙ (c .before .if1 .taken)) (sym (ap length w) ∙ is-zero _ (c .if2 .taken)) v w refl refl
+returns c = search needs
 
-parse-declaration-requires-2 : tie.Need-parse-declaration-requires-2
-parse-declaration-requires-2 c κs = begins-roomy (c .before .before .before .before .before .before .before .before .before .before .before .before .before .before .before .before .before .before .before .before .before .pre) _
+place-requires : tie.Need-place-requires
+place-requires c κs = search needs
 
-enum-known-cause-2 : tie.Need-enum-known-cause-2
-enum-known-cause-2 c = search needs
+mul-n : tie.Need-mul-n
+mul-n c = let k = place-in _ (c .place .ensures) in let a = c .before .before .before .before .before .before .before .before .pre .words-all in let b = c .before .before .before .before .before .before .before .before .pre .bytes-all in omega arith
 
-enum-told : tie.Need-enum-told
-enum-told c = search needs
+slice-read-n : tie.Need-slice-read-n
+slice-read-n c = let k = place-in _ (c .before .place .ensures) in let a = c .before .before .before .before .before .before .before .before .before .pre .words-all in let b = c .before .before .before .before .before .before .before .before .before .pre .bytes-all in omega arith
+
+mul-x : tie.Need-mul-x
+mul-x c = let k = place-in _ (c .before .place .ensures) in let a = c .before .before .before .before .before .before .before .before .before .pre .words-all in let b = c .before .before .before .before .before .before .before .before .before .pre .bytes-all in omega arith
+
+slice-read-x : tie.Need-slice-read-x
+slice-read-x c = let k = place-in _ (c .before .before .place .ensures) in let a = c .before .before .before .before .before .before .before .before .before .before .pre .words-all in let b = c .before .before .before .before .before .before .before .before .before .before .pre .bytes-all in omega arith
+
+parse-declaration-requires : tie.Need-parse-declaration-requires
+parse-declaration-requires c κs = begins-roomy (c .before .before .before .before .before .before .before .before .before .before .before .before .pre) _
+
+enum-known-cause : tie.Need-enum-known-cause
+enum-known-cause c = search needs
+
+enum-known-u : tie.Need-enum-known-u
+enum-known-u c = search needs
+
+mul-words : tie.Need-mul-words
+mul-words c = let k = place-in _ (c .before .before .before .before .before .before .before .before .before .before .before .before .place .ensures) in let a = c .before .before .before .before .before .before .before .before .before .before .before .before .before .before .before .before .before .before .before .before .pre .words-all in let b = c .before .before .before .before .before .before .before .before .before .before .before .before .before .before .before .before .before .before .before .before .pre .bytes-all in omega arith
+
+slice-write-words : tie.Need-slice-write-words
+slice-write-words c = let k = place-in _ (c .before .before .before .before .before .before .before .before .before .before .before .before .place .ensures) in let a = c .before .before .before .before .before .before .before .before .before .before .before .before .before .before .before .before .before .before .before .before .pre .words-all in let b = c .before .before .before .before .before .before .before .before .before .before .before .before .before .before .before .before .before .before .before .before .pre .bytes-all in omega arith
+
+mul-bytes : tie.Need-mul-bytes
+mul-bytes c = let k = place-in _ (c .before .before .before .before .before .before .before .before .before .before .before .before .place .ensures) in let a = c .before .before .before .before .before .before .before .before .before .before .before .before .before .before .before .before .before .before .before .before .pre .words-all in let b = c .before .before .before .before .before .before .before .before .before .before .before .before .before .before .before .before .before .before .before .before .pre .bytes-all in omega arith
+
+slice-write-bytes : tie.Need-slice-write-bytes
+slice-write-bytes c = let k = place-in _ (c .before .before .before .before .before .before .before .before .before .before .before .before .place .ensures) in let a = c .before .before .before .before .before .before .before .before .before .before .before .before .before .before .before .before .before .before .before .before .pre .words-all in let b = c .before .before .before .before .before .before .before .before .before .before .before .before .before .before .before .before .before .before .before .before .pre .bytes-all in omega arith
+
+sub-t38 : tie.Need-sub-t38
+sub-t38 c = let j = declared-at _ _ _ _ _ _ (c .before .before .before .before .before .before .before .parse-declaration .result) (c .before .before .before .before .before .before .before .parse-declaration .ensures) (c .before .u .given .1) in let o = once-on j in omega arith
+
+sub-t41 : tie.Need-sub-t41
+sub-t41 c = let j = declared-at _ _ _ _ _ _ (c .before .before .before .before .before .before .before .parse-declaration .result) (c .before .before .before .before .before .before .before .parse-declaration .ensures) (c .before .u .given .1) in let o = once-on j in omega arith
 
 same-length-5 : tie.Need-same-length-5
 same-length-5 c = search needs
@@ -111,53 +94,33 @@ same-length-10 : tie.Need-same-length-10
 same-length-10 c = search needs
 
 returns-3 : tie.Need-returns-3
-returns-3 c = declared-not _ _ _ _ _ _ (c .before .before .before .before .before .before .before .parse-declaration2 .result) (c .before .before .before .before .before .before .before .parse-declaration2 .ensures) (c .before .cause2 .given .1)
-
-same-length-11 : tie.Need-same-length-11
-same-length-11 c = search needs
-
-same-length-12 : tie.Need-same-length-12
-same-length-12 c = search needs
-
-same-length-13 : tie.Need-same-length-13
-same-length-13 c = search needs
-
-same-length-14 : tie.Need-same-length-14
-same-length-14 c = search needs
-
-returns-4 : tie.Need-returns-4
-returns-4 c = let j = declared-at _ _ _ _ _ _ (c .before .before .before .before .before .before .before .before .before .before .before .before .before .before .before .before .before .before .before .before .parse-declaration .result) (c .before .before .before .before .before .before .before .before .before .before .before .before .before .before .before .before .before .before .before .before .parse-declaration .ensures) (c .before .before .before .before .before .before .before .before .before .before .before .before .before .before .u .given .1) in let g = declared-at _ _ _ _ _ _ (c .before .before .before .before .before .before .parse-declaration2 .result) (c .before .before .before .before .before .before .parse-declaration2 .ensures) (c .enum-told .given .1) in placed-some j refl refl (c .before .before .before .before .before .before .before .before .before .before .before .before .place .ensures) g (no-words (j .lays .stores) refl _) (no-texts (j .lays .stores) refl _) refl refl
+returns-3 c = let j = declared-at _ _ _ _ _ _ (c .before .before .before .before .before .before .before .parse-declaration .result) (c .before .before .before .before .before .before .before .parse-declaration .ensures) (c .before .u .given .1) in placed-once j (c .before .before .before .before .before .before .before .before .before .before .before .before .before .before .kind-ahead .ensures) (c .before .before .before .before .before .before .before .before .before .before .before .before .before .if1 .left) (c .before .before .before .before .before .before .before .before .before .before .before .before .place .ensures) refl refl refl refl
 
 pub declaration-placed-spec : {M : Type 1} → statement M
 declaration-placed-spec =
     tie.close
     (tie.spec
-    slice-relend-prefix-parse-declaration
-    slice-aggregate-parse-declaration
-    slice-relend-prefix-parse-declaration-2
-    slice-aggregate-parse-declaration-2
-    parse-declaration-requires
-    enum-known-cause
-    enum-known-u
-    place-requires
-    mul-n
-    slice-read-n
-    mul-x
-    slice-read-x
-    add-words
-    mul-words
-    slice-write-words
-    add-bytes
-    mul-bytes
-    slice-write-bytes
+    kind-ahead-requires
+    declaration-measured-requires
     same-length
     same-length-2
     same-length-3
     same-length-4
     returns
-    parse-declaration-requires-2
-    enum-known-cause-2
-    enum-told
+    place-requires
+    mul-n
+    slice-read-n
+    mul-x
+    slice-read-x
+    parse-declaration-requires
+    enum-known-cause
+    enum-known-u
+    mul-words
+    slice-write-words
+    mul-bytes
+    slice-write-bytes
+    sub-t38
+    sub-t41
     same-length-5
     same-length-6
     returns-2
@@ -165,9 +128,4 @@ declaration-placed-spec =
     same-length-8
     same-length-9
     same-length-10
-    returns-3
-    same-length-11
-    same-length-12
-    same-length-13
-    same-length-14
-    returns-4)
+    returns-3)

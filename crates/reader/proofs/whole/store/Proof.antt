@@ -8,10 +8,10 @@ use Rattle.reader.proofs.whole.store.Statement.{statement}
 use Rattle.reader.proofs.whole.store.Tie as tie
 
 line-up-requires : tie.Need-line-up-requires
-line-up-requires c κs = words-small (c .before .before .before .before .before .before .pre .0) (c .before .before .before .before .before .before .pre .1) (c .before .before .before .before .before .before .pre .2)
+line-up-requires c κs = let k = words-small (c .before .before .before .before .before .before .pre .0) (c .before .before .before .before .before .before .pre .1) (c .before .before .before .before .before .before .pre .2) in omega arith
 
 line-up-requires-2 : tie.Need-line-up-requires-2
-line-up-requires-2 c κs = bytes-small (c .before .before .before .before .before .before .before .before .before .before .pre .0) (c .before .before .before .before .before .before .before .before .before .before .pre .1) (c .before .before .before .before .before .before .before .before .before .before .pre .2)
+line-up-requires-2 c κs = let k = bytes-small (c .before .before .before .before .before .before .before .before .before .before .pre .0) (c .before .before .before .before .before .before .before .before .before .before .pre .1) (c .before .before .before .before .before .before .before .before .before .before .pre .2) in omega arith
 
 slice-read-m : tie.Need-slice-read-m
 slice-read-m c = search needs

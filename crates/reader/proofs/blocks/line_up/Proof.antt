@@ -1,4 +1,4 @@
--- `whole::line_up` meets its contract.
+-- `blocks::line_up` meets its contract.
 -- Assumes nothing.
 use Prim.Native.Nat.{_-_}
 use native.Mathlib.Omega.{arith}
@@ -6,17 +6,17 @@ use mathlib.Core.Path.{refl}
 use lib.ListN.{length}
 use borrow.Author.Needs.{needs}
 use Rattle.reader.proofs.PlaceLaws.{Lining, lining-start, lining-small, lining-next, lining-done}
-use Rattle.reader.proofs.whole.line_up.Statement.{statement}
-use Rattle.reader.proofs.whole.line_up.Tie as tie
+use Rattle.reader.proofs.blocks.line_up.Statement.{statement}
+use Rattle.reader.proofs.blocks.line_up.Tie as tie
 
 abbrev Inv-loop : tie.InvT-loop
-Inv-loop sizes₀ at₀ i₀ sizes at i = Lining sizes₀ sizes at i
+Inv-loop sizes₀ from at₀ i₀ sizes at i = Lining from sizes₀ sizes at i
 
 abbrev μ-loop : tie.MeasureT-loop
-μ-loop sizes₀ at₀ i₀ sizes at i = length sizes - i
+μ-loop sizes₀ from at₀ i₀ sizes at i = length sizes - i
 
 loop-holds : tie.Need-loop-holds Inv-loop μ-loop
-loop-holds c = lining-start _
+loop-holds c = lining-start _ _
 
 mul-size : tie.Need-mul-size Inv-loop μ-loop
 mul-size c = search needs

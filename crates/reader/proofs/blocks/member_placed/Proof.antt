@@ -1,0 +1,104 @@
+-- `blocks::member_placed` meets its contract.
+-- Assumes nothing.
+use native.Mathlib.Omega.{arith}
+use mathlib.Core.Path.{refl}
+use lib.ListN.{length}
+use Rattle.reader.proofs.MemberLaws.{joined-at, joined-not}
+use Rattle.reader.proofs.MemberAhead.{group-in}
+use Rattle.reader.proofs.Spreading.{begins-ready, settled-on, settled}
+use borrow.Author.Needs.{needs}
+use Rattle.reader.proofs.blocks.member_placed.Statement.{statement}
+use Rattle.reader.proofs.blocks.member_placed.Tie as tie
+
+group-ahead-requires : tie.Need-group-ahead-requires
+group-ahead-requires c κs = search needs
+
+mul-n : tie.Need-mul-n
+mul-n c = let k = group-in (c .before .before .before .before .before .before .args .block) (c .before .before .before .before .before .before .args .free) _ (c .before .before .before .before .before .before .args .token) (c .group-ahead .ensures) in let a = c .before .before .before .before .before .before .pre .words-all in let b = c .before .before .before .before .before .before .pre .bytes-all in omega arith
+
+slice-read-n : tie.Need-slice-read-n
+slice-read-n c = let k = group-in (c .before .before .before .before .before .before .before .args .block) (c .before .before .before .before .before .before .before .args .free) _ (c .before .before .before .before .before .before .before .args .token) (c .before .group-ahead .ensures) in let a = c .before .before .before .before .before .before .before .pre .words-all in let b = c .before .before .before .before .before .before .before .pre .bytes-all in omega arith
+
+mul-x : tie.Need-mul-x
+mul-x c = let k = group-in (c .before .before .before .before .before .before .before .args .block) (c .before .before .before .before .before .before .before .args .free) _ (c .before .before .before .before .before .before .before .args .token) (c .before .group-ahead .ensures) in let a = c .before .before .before .before .before .before .before .pre .words-all in let b = c .before .before .before .before .before .before .before .pre .bytes-all in omega arith
+
+slice-read-x : tie.Need-slice-read-x
+slice-read-x c = let k = group-in (c .before .before .before .before .before .before .before .before .args .block) (c .before .before .before .before .before .before .before .before .args .free) _ (c .before .before .before .before .before .before .before .before .args .token) (c .before .before .group-ahead .ensures) in let a = c .before .before .before .before .before .before .before .before .pre .words-all in let b = c .before .before .before .before .before .before .before .before .pre .bytes-all in omega arith
+
+member-requires : tie.Need-member-requires
+member-requires c κs = begins-ready (c .before .before .before .before .before .before .before .before .before .before .pre) _
+
+enum-known-cause : tie.Need-enum-known-cause
+enum-known-cause c = search needs
+
+enum-known-u : tie.Need-enum-known-u
+enum-known-u c = search needs
+
+mul-words : tie.Need-mul-words
+mul-words c = let k = group-in (c .before .before .before .before .before .before .before .before .before .before .before .before .before .before .before .before .before .before .args .block) (c .before .before .before .before .before .before .before .before .before .before .before .before .before .before .before .before .before .before .args .free) _ (c .before .before .before .before .before .before .before .before .before .before .before .before .before .before .before .before .before .before .args .token) (c .before .before .before .before .before .before .before .before .before .before .before .before .group-ahead .ensures) in let a = c .before .before .before .before .before .before .before .before .before .before .before .before .before .before .before .before .before .before .pre .words-all in let b = c .before .before .before .before .before .before .before .before .before .before .before .before .before .before .before .before .before .before .pre .bytes-all in omega arith
+
+slice-write-words : tie.Need-slice-write-words
+slice-write-words c = let k = group-in (c .before .before .before .before .before .before .before .before .before .before .before .before .before .before .before .before .before .before .args .block) (c .before .before .before .before .before .before .before .before .before .before .before .before .before .before .before .before .before .before .args .free) _ (c .before .before .before .before .before .before .before .before .before .before .before .before .before .before .before .before .before .before .args .token) (c .before .before .before .before .before .before .before .before .before .before .before .before .group-ahead .ensures) in let a = c .before .before .before .before .before .before .before .before .before .before .before .before .before .before .before .before .before .before .pre .words-all in let b = c .before .before .before .before .before .before .before .before .before .before .before .before .before .before .before .before .before .before .pre .bytes-all in omega arith
+
+mul-bytes : tie.Need-mul-bytes
+mul-bytes c = let k = group-in (c .before .before .before .before .before .before .before .before .before .before .before .before .before .before .before .before .before .before .args .block) (c .before .before .before .before .before .before .before .before .before .before .before .before .before .before .before .before .before .before .args .free) _ (c .before .before .before .before .before .before .before .before .before .before .before .before .before .before .before .before .before .before .args .token) (c .before .before .before .before .before .before .before .before .before .before .before .before .group-ahead .ensures) in let a = c .before .before .before .before .before .before .before .before .before .before .before .before .before .before .before .before .before .before .pre .words-all in let b = c .before .before .before .before .before .before .before .before .before .before .before .before .before .before .before .before .before .before .pre .bytes-all in omega arith
+
+slice-write-bytes : tie.Need-slice-write-bytes
+slice-write-bytes c = let k = group-in (c .before .before .before .before .before .before .before .before .before .before .before .before .before .before .before .before .before .before .args .block) (c .before .before .before .before .before .before .before .before .before .before .before .before .before .before .before .before .before .before .args .free) _ (c .before .before .before .before .before .before .before .before .before .before .before .before .before .before .before .before .before .before .args .token) (c .before .before .before .before .before .before .before .before .before .before .before .before .group-ahead .ensures) in let a = c .before .before .before .before .before .before .before .before .before .before .before .before .before .before .before .before .before .before .pre .words-all in let b = c .before .before .before .before .before .before .before .before .before .before .before .before .before .before .before .before .before .before .pre .bytes-all in omega arith
+
+sub-t29 : tie.Need-sub-t29
+sub-t29 c = let j = joined-at _ _ _ _ _ _ _ _ (c .before .before .before .before .before .before .before .member .result) (c .before .before .before .before .before .before .before .member .ensures) (c .before .u .given .1) in let o = settled-on j in omega arith
+
+sub-t32 : tie.Need-sub-t32
+sub-t32 c = let j = joined-at _ _ _ _ _ _ _ _ (c .before .before .before .before .before .before .before .member .result) (c .before .before .before .before .before .before .before .member .ensures) (c .before .u .given .1) in let o = settled-on j in omega arith
+
+same-length : tie.Need-same-length
+same-length c = search needs
+
+same-length-2 : tie.Need-same-length-2
+same-length-2 c = search needs
+
+returns : tie.Need-returns
+returns c = joined-not _ _ _ _ _ _ _ _ (c .before .before .before .before .before .before .before .member .result) (c .before .before .before .before .before .before .before .member .ensures) (c .before .cause .given .1)
+
+same-length-3 : tie.Need-same-length-3
+same-length-3 c = search needs
+
+same-length-4 : tie.Need-same-length-4
+same-length-4 c = search needs
+
+same-length-5 : tie.Need-same-length-5
+same-length-5 c = search needs
+
+same-length-6 : tie.Need-same-length-6
+same-length-6 c = search needs
+
+returns-2 : tie.Need-returns-2
+returns-2 c = let j = joined-at _ _ _ _ _ _ _ _ (c .before .before .before .before .before .before .before .member .result) (c .before .before .before .before .before .before .before .member .ensures) (c .before .u .given .1) in settled j (c .before .before .before .before .before .before .before .before .before .before .before .before .group-ahead .ensures) refl refl refl refl
+
+pub member-placed-spec : {M : Type 1} → statement M
+member-placed-spec =
+    tie.close
+    (tie.spec
+    group-ahead-requires
+    mul-n
+    slice-read-n
+    mul-x
+    slice-read-x
+    member-requires
+    enum-known-cause
+    enum-known-u
+    mul-words
+    slice-write-words
+    mul-bytes
+    slice-write-bytes
+    sub-t29
+    sub-t32
+    same-length
+    same-length-2
+    returns
+    same-length-3
+    same-length-4
+    same-length-5
+    same-length-6
+    returns-2)

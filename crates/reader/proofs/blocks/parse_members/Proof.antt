@@ -1,0 +1,159 @@
+-- `blocks::parse_members` meets its contract.
+-- Assumes nothing.
+use native.Mathlib.Omega.{arith}
+use mathlib.Core.Path.{refl, ap, sym, _∙_}
+use lib.ListN.{length}
+use Rattle.reader.proofs.BlockGathered.{is-zero}
+use Rattle.reader.proofs.BlockFilled.{spread-at, spread-not, before-words, before-texts, blank-begins, spread-small, words-small, bytes-small, spread-none, lined-begins, spread-over}
+use borrow.Author.Needs.{needs}
+use Rattle.reader.proofs.blocks.parse_members.Statement.{statement}
+use Rattle.reader.proofs.blocks.parse_members.Tie as tie
+
+slice-relend-prefix-members-pass : tie.Need-slice-relend-prefix-members-pass
+slice-relend-prefix-members-pass c = search needs
+
+slice-aggregate-members-pass : tie.Need-slice-aggregate-members-pass
+slice-aggregate-members-pass c = search needs
+
+slice-relend-prefix-members-pass-2 : tie.Need-slice-relend-prefix-members-pass-2
+slice-relend-prefix-members-pass-2 c = search needs
+
+slice-aggregate-members-pass-2 : tie.Need-slice-aggregate-members-pass-2
+slice-aggregate-members-pass-2 c = search needs
+
+members-pass-requires : tie.Need-members-pass-requires
+members-pass-requires c κs = blank-begins (c .before .before .before .before .before .before .before .before .before .pre .0) (c .before .before .before .before .before .before .before .before .before .pre .1) (c .before .before .before .before .before .before .before .before .before .pre .2)
+
+enum-known-cause : tie.Need-enum-known-cause
+enum-known-cause c = search needs
+
+enum-known-v : tie.Need-enum-known-v
+enum-known-v c = search needs
+
+add-t32 : tie.Need-add-t32
+add-t32 c = let k = spread-small (c .before .before .before .before .before .before .before .before .before .before .before .before .before .before .before .before .before .before .before .before .before .before .before .pre .0) (c .before .before .before .before .before .before .before .before .before .before .before .before .before .before .before .before .before .before .before .before .before .before .before .pre .1) (c .before .before .before .before .before .before .before .before .before .before .before .before .before .before .before .before .before .before .before .before .before .before .before .pre .2) (spread-at _ _ _ _ _ _ _ _ _ _ _ (c .before .before .before .before .before .before .before .before .before .before .before .before .before .members-pass .result) (c .before .before .before .before .before .before .before .before .before .before .before .before .before .members-pass .ensures) (c .before .before .before .v .given .1)) .0 in omega arith
+
+add-t33 : tie.Need-add-t33
+add-t33 c = let k = spread-small (c .before .before .before .before .before .before .before .before .before .before .before .before .before .before .before .before .before .before .before .before .before .before .before .pre .0) (c .before .before .before .before .before .before .before .before .before .before .before .before .before .before .before .before .before .before .before .before .before .before .before .pre .1) (c .before .before .before .before .before .before .before .before .before .before .before .before .before .before .before .before .before .before .before .before .before .before .before .pre .2) (spread-at _ _ _ _ _ _ _ _ _ _ _ (c .before .before .before .before .before .before .before .before .before .before .before .before .before .members-pass .result) (c .before .before .before .before .before .before .before .before .before .before .before .before .before .members-pass .ensures) (c .before .before .before .v .given .1)) .1 in omega arith
+
+same-length : tie.Need-same-length
+same-length c = search needs
+
+same-length-2 : tie.Need-same-length-2
+same-length-2 c = search needs
+
+same-length-3 : tie.Need-same-length-3
+same-length-3 c = search needs
+
+same-length-4 : tie.Need-same-length-4
+same-length-4 c = search needs
+
+returns : tie.Need-returns
+returns c = let j = (spread-at _ _ _ _ _ _ _ _ _ _ _ (c .before .before .before .before .before .before .before .before .before .before .before .before .before .members-pass .result) (c .before .before .before .before .before .before .before .before .before .before .before .before .before .members-pass .ensures) (c .before .before .before .v .given .1)) in let v = before-words j refl (c .before .before .before .before .before .before .before .before .before .before .before .before .before .before .before .before .before .before .before .before .before .before .before .args .records .now) in let w = before-texts j refl (c .before .before .before .before .before .before .before .before .before .before .before .before .before .before .before .before .before .before .before .before .before .before .before .args .texts .now) in spread-none (c .before .before .before .before .before .before .before .before .before .before .before .before .before .before .before .before .before .before .before .before .before .before .before .pre .0) (c .before .before .before .before .before .before .before .before .before .before .before .before .before .before .before .before .before .before .before .before .before .before .before .pre .1) (c .before .before .before .before .before .before .before .before .before .before .before .before .before .before .before .before .before .before .before .before .before .before .before .pre .2) j (sym (ap length v) ∙ c .before .if1 .taken) (sym (ap length w) ∙ is-zero _ (c .if2 .taken)) (c .before .if1 .taken) (is-zero _ (c .if2 .taken))
+
+line-up-requires : tie.Need-line-up-requires
+line-up-requires c κs = words-small (c .before .before .before .before .before .before .before .before .before .before .before .before .before .before .before .before .before .before .before .before .before .before .before .pre .0) (c .before .before .before .before .before .before .before .before .before .before .before .before .before .before .before .before .before .before .before .before .before .before .before .pre .1) (c .before .before .before .before .before .before .before .before .before .before .before .before .before .before .before .before .before .before .before .before .before .before .before .pre .2) (spread-at _ _ _ _ _ _ _ _ _ _ _ (c .before .before .before .before .before .before .before .before .before .before .before .before .before .members-pass .result) (c .before .before .before .before .before .before .before .before .before .before .before .before .before .members-pass .ensures) (c .before .before .before .v .given .1))
+
+line-up-requires-2 : tie.Need-line-up-requires-2
+line-up-requires-2 c κs = bytes-small (c .before .before .before .before .before .before .before .before .before .before .before .before .before .before .before .before .before .before .before .before .before .before .before .before .before .before .before .pre .0) (c .before .before .before .before .before .before .before .before .before .before .before .before .before .before .before .before .before .before .before .before .before .before .before .before .before .before .before .pre .1) (c .before .before .before .before .before .before .before .before .before .before .before .before .before .before .before .before .before .before .before .before .before .before .before .before .before .before .before .pre .2) (spread-at _ _ _ _ _ _ _ _ _ _ _ (c .before .before .before .before .before .before .before .before .before .before .before .before .before .before .before .before .before .members-pass .result) (c .before .before .before .before .before .before .before .before .before .before .before .before .before .before .before .before .before .members-pass .ensures) (c .before .before .before .before .before .before .before .v .given .1))
+
+members-pass-requires-2 : tie.Need-members-pass-requires-2
+members-pass-requires-2 c κs = lined-begins (c .before .before .before .before .before .before .before .before .before .before .before .before .before .before .before .before .before .before .before .before .before .before .before .before .before .before .before .before .before .before .before .before .before .before .pre .0) (c .before .before .before .before .before .before .before .before .before .before .before .before .before .before .before .before .before .before .before .before .before .before .before .before .before .before .before .before .before .before .before .before .before .before .pre .1) (c .before .before .before .before .before .before .before .before .before .before .before .before .before .before .before .before .before .before .before .before .before .before .before .before .before .before .before .before .before .before .before .before .before .before .pre .2) (spread-at _ _ _ _ _ _ _ _ _ _ _ (c .before .before .before .before .before .before .before .before .before .before .before .before .before .before .before .before .before .before .before .before .before .before .before .before .members-pass .result) (c .before .before .before .before .before .before .before .before .before .before .before .before .before .before .before .before .before .before .before .before .before .before .before .before .members-pass .ensures) (c .before .before .before .before .before .before .before .before .before .before .before .before .before .before .v .given .1)) (c .before .before .before .before .before .before .before .before .before .before .line-up .ensures) (c .before .before .before .before .before .before .line-up2 .ensures)
+
+enum-known-cause-2 : tie.Need-enum-known-cause-2
+enum-known-cause-2 c = search needs
+
+enum-told : tie.Need-enum-told
+enum-told c = search needs
+
+add-t49 : tie.Need-add-t49
+add-t49 c = let k = spread-small (c .before .before .before .before .before .before .before .before .before .before .before .before .before .before .before .before .before .before .before .before .before .before .before .before .before .before .before .before .before .before .before .before .before .before .before .before .before .before .before .before .before .before .before .before .before .pre .0) (c .before .before .before .before .before .before .before .before .before .before .before .before .before .before .before .before .before .before .before .before .before .before .before .before .before .before .before .before .before .before .before .before .before .before .before .before .before .before .before .before .before .before .before .before .before .pre .1) (c .before .before .before .before .before .before .before .before .before .before .before .before .before .before .before .before .before .before .before .before .before .before .before .before .before .before .before .before .before .before .before .before .before .before .before .before .before .before .before .before .before .before .before .before .before .pre .2) (spread-at _ _ _ _ _ _ _ _ _ _ _ (c .before .before .before .before .before .before .before .before .before .before .before .before .before .before .before .before .before .before .before .before .before .before .before .before .before .before .before .before .before .before .before .before .before .before .before .members-pass .result) (c .before .before .before .before .before .before .before .before .before .before .before .before .before .before .before .before .before .before .before .before .before .before .before .before .before .before .before .before .before .before .before .before .before .before .before .members-pass .ensures) (c .before .before .before .before .before .before .before .before .before .before .before .before .before .before .before .before .before .before .before .before .before .before .before .before .before .v .given .1)) .0 in omega arith
+
+add-t50 : tie.Need-add-t50
+add-t50 c = let k = spread-small (c .before .before .before .before .before .before .before .before .before .before .before .before .before .before .before .before .before .before .before .before .before .before .before .before .before .before .before .before .before .before .before .before .before .before .before .before .before .before .before .before .before .before .before .before .before .pre .0) (c .before .before .before .before .before .before .before .before .before .before .before .before .before .before .before .before .before .before .before .before .before .before .before .before .before .before .before .before .before .before .before .before .before .before .before .before .before .before .before .before .before .before .before .before .before .pre .1) (c .before .before .before .before .before .before .before .before .before .before .before .before .before .before .before .before .before .before .before .before .before .before .before .before .before .before .before .before .before .before .before .before .before .before .before .before .before .before .before .before .before .before .before .before .before .pre .2) (spread-at _ _ _ _ _ _ _ _ _ _ _ (c .before .before .before .before .before .before .before .before .before .before .before .before .before .before .before .before .before .before .before .before .before .before .before .before .before .before .before .before .before .before .before .before .before .before .before .members-pass .result) (c .before .before .before .before .before .before .before .before .before .before .before .before .before .before .before .before .before .before .before .before .before .before .before .before .before .before .before .before .before .before .before .before .before .before .before .members-pass .ensures) (c .before .before .before .before .before .before .before .before .before .before .before .before .before .before .before .before .before .before .before .before .before .before .before .before .before .v .given .1)) .1 in omega arith
+
+same-length-5 : tie.Need-same-length-5
+same-length-5 c = search needs
+
+same-length-6 : tie.Need-same-length-6
+same-length-6 c = search needs
+
+same-length-7 : tie.Need-same-length-7
+same-length-7 c = search needs
+
+same-length-8 : tie.Need-same-length-8
+same-length-8 c = search needs
+
+returns-2 : tie.Need-returns-2
+returns-2 c = spread-not _ _ _ _ _ _ _ _ _ _ _ (c .before .before .before .before .before .before .before .before .before .before .before .members-pass .result) (c .before .before .before .before .before .before .before .before .before .before .before .members-pass .ensures) (c .before .cause .given .1)
+
+same-length-9 : tie.Need-same-length-9
+same-length-9 c = search needs
+
+same-length-10 : tie.Need-same-length-10
+same-length-10 c = search needs
+
+same-length-11 : tie.Need-same-length-11
+same-length-11 c = search needs
+
+same-length-12 : tie.Need-same-length-12
+same-length-12 c = search needs
+
+returns-3 : tie.Need-returns-3
+returns-3 c = spread-not _ _ _ _ _ _ _ _ _ _ _ (c .before .before .before .before .before .before .before .before .before .before .before .members-pass2 .result) (c .before .before .before .before .before .before .before .before .before .before .before .members-pass2 .ensures) (c .before .cause2 .given .1)
+
+same-length-13 : tie.Need-same-length-13
+same-length-13 c = search needs
+
+same-length-14 : tie.Need-same-length-14
+same-length-14 c = search needs
+
+same-length-15 : tie.Need-same-length-15
+same-length-15 c = search needs
+
+same-length-16 : tie.Need-same-length-16
+same-length-16 c = search needs
+
+returns-4 : tie.Need-returns-4
+returns-4 c = let j = (spread-at _ _ _ _ _ _ _ _ _ _ _ (c .before .before .before .before .before .before .before .before .before .before .before .before .before .before .before .before .before .before .before .before .before .before .before .before .before .before .before .before .before .before .before .before .before .before .before .members-pass .result) (c .before .before .before .before .before .before .before .before .before .before .before .before .before .before .before .before .before .before .before .before .before .before .before .before .before .before .before .before .before .before .before .before .before .before .before .members-pass .ensures) (c .before .before .before .before .before .before .before .before .before .before .before .before .before .before .before .before .before .before .before .before .before .before .before .before .before .v .given .1)) in spread-over (c .before .before .before .before .before .before .before .before .before .before .before .before .before .before .before .before .before .before .before .before .before .before .before .before .before .before .before .before .before .before .before .before .before .before .before .before .before .before .before .before .before .before .before .before .before .pre .0) (c .before .before .before .before .before .before .before .before .before .before .before .before .before .before .before .before .before .before .before .before .before .before .before .before .before .before .before .before .before .before .before .before .before .before .before .before .before .before .before .before .before .before .before .before .before .pre .1) (c .before .before .before .before .before .before .before .before .before .before .before .before .before .before .before .before .before .before .before .before .before .before .before .before .before .before .before .before .before .before .before .before .before .before .before .before .before .before .before .before .before .before .before .before .before .pre .2) j (c .before .before .before .before .before .before .before .before .before .before .before .before .before .before .before .before .before .before .before .before .before .line-up .ensures) (c .before .before .before .before .before .before .before .before .before .before .before .before .before .before .before .before .before .line-up2 .ensures) (spread-at _ _ _ _ _ _ _ _ _ _ _ (c .before .before .before .before .before .before .before .before .before .before .members-pass2 .result) (c .before .before .before .before .before .before .before .before .before .before .members-pass2 .ensures) (c .enum-told .given .1)) (before-words j refl (c .before .before .before .before .before .before .before .before .before .before .before .before .before .before .before .before .before .before .before .before .before .before .before .before .before .before .before .before .before .before .before .before .before .before .before .before .before .before .before .before .before .before .before .before .before .args .records .now)) (before-texts j refl (c .before .before .before .before .before .before .before .before .before .before .before .before .before .before .before .before .before .before .before .before .before .before .before .before .before .before .before .before .before .before .before .before .before .before .before .before .before .before .before .before .before .before .before .before .before .args .texts .now))
+
+pub parse-members-spec : {M : Type 1} → statement M
+parse-members-spec =
+    tie.close
+    (tie.spec
+    slice-relend-prefix-members-pass
+    slice-aggregate-members-pass
+    slice-relend-prefix-members-pass-2
+    slice-aggregate-members-pass-2
+    members-pass-requires
+    enum-known-cause
+    enum-known-v
+    add-t32
+    add-t33
+    same-length
+    same-length-2
+    same-length-3
+    same-length-4
+    returns
+    line-up-requires
+    line-up-requires-2
+    members-pass-requires-2
+    enum-known-cause-2
+    enum-told
+    add-t49
+    add-t50
+    same-length-5
+    same-length-6
+    same-length-7
+    same-length-8
+    returns-2
+    same-length-9
+    same-length-10
+    same-length-11
+    same-length-12
+    returns-3
+    same-length-13
+    same-length-14
+    same-length-15
+    same-length-16
+    returns-4)
