@@ -22,7 +22,10 @@ slice-aggregate-write-normal-text : tie.Need-slice-aggregate-write-normal-text
 slice-aggregate-write-normal-text c = kept-part (kept _ _ _ _ _ (c .before .before .before .before .before .before .before .before .read .result) (c .before .before .before .before .before .before .before .before .read .ensures .0) (c .before .before .n .given .1))
 
 write-normal-text-requires : tie.Need-write-normal-text-requires
-write-normal-text-requires c κs = kept-stored (kept _ _ _ _ _ (c .before .before .before .before .before .before .before .before .before .before .read .result) (c .before .before .before .before .before .before .before .before .before .before .read .ensures .0) (c .before .before .before .before .n .given .1)) (kept-few _ _ _ _ _ (c .before .before .before .before .before .before .before .before .before .before .read .result) (c .before .before .before .before .before .before .before .before .before .before .read .ensures .0) (c .before .before .before .before .n .given .1) (c .before .before .before .before .before .before .before .before .before .before .read .ensures .1))
+write-normal-text-requires c κs =
+    let c4 = c .before .before .before .before in
+    let c10 = c4 .before .before .before .before .before .before in
+    kept-stored (kept _ _ _ _ _ (c10 .read .result) (c10 .read .ensures .0) (c4 .n .given .1)) (kept-few _ _ _ _ _ (c10 .read .result) (c10 .read .ensures .0) (c4 .n .given .1) (c10 .read .ensures .1))
 
 enum-told : tie.Need-enum-told
 enum-told c = search needs
@@ -54,8 +57,11 @@ same-length-5 c = search needs
 returns-2 : tie.Need-returns-2
 unfolding longest
 returns-2 c =
-    let k = kept _ _ _ _ _ (c .before .before .before .before .before .before .before .before .before .before .before .before .before .before .before .before .read .result) (c .before .before .before .before .before .before .before .before .before .before .before .before .before .before .before .before .read .ensures .0) (c .before .before .before .before .before .before .before .before .before .before .n .given .1) in
-    normal-full k (kept-few _ _ _ _ _ (c .before .before .before .before .before .before .before .before .before .before .before .before .before .before .before .before .read .result) (c .before .before .before .before .before .before .before .before .before .before .before .before .before .before .before .before .read .ensures .0) (c .before .before .before .before .before .before .before .before .before .before .n .given .1) (c .before .before .before .before .before .before .before .before .before .before .before .before .before .before .before .before .read .ensures .1)) _ _ (c .before .before .before .before .before .write-normal-text .result) (c .before .before .before .before .before .write-normal-text .ensures) (c .refuse .result) (c .before .enum-told .given .1) (c .refuse .ensures)
+    let c5 = c .before .before .before .before .before in
+    let c10 = c5 .before .before .before .before .before in
+    let c16 = c10 .before .before .before .before .before .before in
+    let k = kept _ _ _ _ _ (c16 .read .result) (c16 .read .ensures .0) (c10 .n .given .1) in
+    normal-full k (kept-few _ _ _ _ _ (c16 .read .result) (c16 .read .ensures .0) (c10 .n .given .1) (c16 .read .ensures .1)) _ _ (c5 .write-normal-text .result) (c5 .write-normal-text .ensures) (c .refuse .result) (c .before .enum-told .given .1) (c .refuse .ensures)
 
 same-length-6 : tie.Need-same-length-6
 same-length-6 c = search needs
@@ -69,8 +75,11 @@ same-length-8 c = search needs
 returns-3 : tie.Need-returns-3
 unfolding longest
 returns-3 c =
-    let k = kept _ _ _ _ _ (c .before .before .before .before .before .before .before .before .before .before .before .before .before .before .before .before .read .result) (c .before .before .before .before .before .before .before .before .before .before .before .before .before .before .before .before .read .ensures .0) (c .before .before .before .before .before .before .before .before .before .before .n .given .1) in
-    normal-written k (kept-few _ _ _ _ _ (c .before .before .before .before .before .before .before .before .before .before .before .before .before .before .before .before .read .result) (c .before .before .before .before .before .before .before .before .before .before .before .before .before .before .before .before .read .ensures .0) (c .before .before .before .before .before .before .before .before .before .before .n .given .1) (c .before .before .before .before .before .before .before .before .before .before .before .before .before .before .before .before .read .ensures .1)) _ _ (c .before .before .before .before .before .write-normal-text .result) (c .before .before .before .before .before .write-normal-text .ensures) (c .before .m .given .1)
+    let c5 = c .before .before .before .before .before in
+    let c10 = c5 .before .before .before .before .before in
+    let c16 = c10 .before .before .before .before .before .before in
+    let k = kept _ _ _ _ _ (c16 .read .result) (c16 .read .ensures .0) (c10 .n .given .1) in
+    normal-written k (kept-few _ _ _ _ _ (c16 .read .result) (c16 .read .ensures .0) (c10 .n .given .1) (c16 .read .ensures .1)) _ _ (c5 .write-normal-text .result) (c5 .write-normal-text .ensures) (c .before .m .given .1)
 
 pub normal-text-spec : {M : Type 1} → statement M
 normal-text-spec =
