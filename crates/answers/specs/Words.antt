@@ -2,6 +2,7 @@
 -- Assumes nothing.
 use Prim.Native.Nat.{ℕ}
 use mathlib.Core.List.{List, _++_}
+use mathlib.Core.Bool.{Bool, true, false}
 use lib.Dec.{leb}
 use lib.ListN.{length, drop}
 use Rattle.basics.specs.Basics.{if_then_else_}
@@ -9,3 +10,8 @@ use Rattle.basics.specs.Basics.{if_then_else_}
 -- words laid over the first of others, where they fit
 unfoldable pub laid : List ℕ → List ℕ → List ℕ
 laid ws out = if leb (length ws) (length out) then ws ++ drop (length ws) out else out
+
+-- 1 for yes
+abbrev pub bit : Bool → ℕ
+bit false = 0
+bit true = 1

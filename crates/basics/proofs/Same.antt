@@ -4,17 +4,16 @@ use mathlib.Core.Path.{_≡_, refl, sym, _∙_, ap, ap₂}
 use mathlib.Core.Bool.{Bool, true, false}
 use mathlib.Core.List.{List, [], _∷_}
 use Prim.Native.Nat.{ℕ}
-use native.Mathlib.Omega.{arith}
 use lib.Dec.{eqb}
 use borrow.Author.Tests.{eq-eqb, eqb-true}
 use Rattle.basics.specs.Basics.{same}
-use Rattle.basics.proofs.Tests.{cases, both-true}
+use Rattle.basics.proofs.Tests.{cases, impossible, both-true}
 
 pub same-true : (a b : List ℕ) → same a b ≡ true → a ≡ b
 unfolding same
 same-true [] [] e = refl
-same-true [] (y ∷ b) e = let z : _≡_ {A = ℕ} 0 1 = cc in absurd (omega arith)
-same-true (x ∷ a) [] e = let z : _≡_ {A = ℕ} 0 1 = cc in absurd (omega arith)
+same-true [] (y ∷ b) e = impossible (cc)
+same-true (x ∷ a) [] e = impossible (cc)
 same-true (x ∷ a) (y ∷ b) e =
     let h = both-true (eqb x y) (same a b) e in
     ap₂ (λ (n : ℕ) (l : List ℕ). n ∷ l) (eqb-true x y (h .0)) (same-true a b (h .1))

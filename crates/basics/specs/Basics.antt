@@ -1,6 +1,6 @@
 -- Small tests, quoted texts and lists. A text is a list of codes (Unicode code points); bytes are a list of numbers below 256.
 -- Assumes nothing.
-use Prim.Native.Nat.{ℕ, zero, suc, _+_}
+use Prim.Native.Nat.{ℕ, _+_}
 use Prim.Native.Char.{Char, code}
 use Prim.Native.String.{String}
 use Prim.Native.String
@@ -10,6 +10,7 @@ use mathlib.Core.Option.{Option, none, some}
 use lib.Dec.{eqb, leb}
 
 infixr 10 if_then_else_
+-- the first where the test holds, the second where it does not
 abbrev pub if_then_else_ {ℓ} : {A : Type ℓ} → Bool → A → A → A
 if true then a else b = a
 if false then a else b = b
@@ -59,6 +60,7 @@ module _ {A : Type 0} where
   concat [] = []
   concat (xs ∷ xss) = xs ++ concat xss
 
+  -- there is none
   abbrev pub isEmpty : List A → Bool
   isEmpty [] = true
   isEmpty (x ∷ xs) = false
@@ -74,11 +76,12 @@ module _ {A : Type 0} where
   lastOf (x ∷ []) = x ∷ []
   lastOf (x ∷ y ∷ ys) = lastOf (y ∷ ys)
 
-  -- one more in front, if there is one; if a test says so
+  -- one more in front, if there is one
   abbrev pub orNot : Option A → List A → List A
   orNot none xs = xs
   orNot (some x) xs = x ∷ xs
 
+  -- one more in front, if a test says so
   abbrev pub keepIf : Bool → A → List A → List A
   keepIf true x xs = x ∷ xs
   keepIf false x xs = xs

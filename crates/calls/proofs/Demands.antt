@@ -1,14 +1,15 @@
 -- The demands on the calls, proved.
 -- Assumes nothing.
-use Prim.Native.Nat.{ℕ, _-_, _≤_}
+use Prim.Native.Nat.{ℕ, _≤_}
 use native.Mathlib.Omega.{arith}
 use mathlib.Core.Path.{_≡_, refl, ap, sym, _∙_}
-use mathlib.Core.Bool.{Bool, true, false, _||_}
+use mathlib.Core.Bool.{Bool, true, false}
 use mathlib.Core.List.{List, []}
 use lib.Dec.{ltb}
 use lib.ListN.{length, take, drop, length-append, length-drop}
 use lib.Seq.{take-append-seam}
 use borrow.Author.Tests.{lt-ltb, le-ltb, ltb-false}
+use Rattle.basics.proofs.Tests.{impossible, both-false}
 use Rattle.error.specs.Causes.{outputFull}
 use Rattle.error.specs.Lines.{refusalAt}
 use Rattle.tree.specs.Syntax.{GrammarDeclaration}
@@ -20,7 +21,7 @@ use Rattle.grammar.specs.Calls as Calls
 use Rattle.grammar.specs.Calls.{over, roomFor, ReadOutcome, readBy, read, NormalOutcome, writeBy, normalBy, normal}
 use Rattle.laws.specs.Demand3.{Accepted}
 use Rattle.laws.proofs.Demand3.{normal-texts-are-accepted, equal-when-trees-agree, agreeing-trees-take-the-same-room}
-use Rattle.laws.proofs.Calls.{Room, wrote, wrote-only, or-left}
+use Rattle.laws.proofs.Calls.{Room, wrote, wrote-only}
 use Rattle.calls.specs.Promise.{readOutcome, ReadTo, normalAnswer, normalOutcome, NormalTo}
 use Rattle.calls.specs.Demands.{ReadIsSettled, NormalTextIsSettled, StructurallyEqIsSettled, RefusedAs, StoredAs, Answers, ReadAnswersAsDefined, EqualExactlyWhenTreesAgree, Agreeing, NormalTextsAreTheirOwn, NormalTextIsWritten, NormalTextIsTooLong}
 use Rattle.calls.specs.declared.ReadAnswer.{ReadAnswer}
@@ -33,10 +34,6 @@ use Rattle.calls.proofs.NormalLaws.{roomed}
 -- what is laid over the front of what it fits into has the same length
 over-length : (xs lent : List ℕ) → length xs ≤ length lent → length (over xs lent) ≡ length lent
 over-length xs lent h = let a = length-append xs (drop (length xs) lent) in let b = length-drop (length xs) lent in omega arith
-
-pub or-right : (a b : Bool) → (a || b) ≡ false → b ≡ false
-or-right true b e = let z : _≡_ {A = ℕ} 0 1 = cc in absurd (omega arith)
-or-right false b e = e
 
 module _ (s ws ts out : List ℕ) where
   abbrev SameLengths : ReadOutcome → Type 0
@@ -59,7 +56,7 @@ module _ (s ws ts out : List ℕ) where
         by-room : (b : Bool) → tooLong longest (normalText g) out ≡ b → AllSameLengths (writeBy s ws ts out g)
         by-room true h = rw h (words-same, bytes-same, refl)
         by-room false h =
-            let k = or-right (ltb longest (length (normalText g))) (ltb (length out) (length (normalText g))) h in
+            let k = both-false (ltb longest (length (normalText g))) (ltb (length out) (length (normalText g))) h .1 in
             rw h (words-same, bytes-same, over-length (normalText g) out (ltb-false (length out) (length (normalText g)) k))
 
   read-same : (r : Reading) → roomFor (length ws) (length ts) (reading s) ≡ r → SameLengths (readBy s ws ts r)
@@ -154,7 +151,7 @@ equal-exactly-when-trees-agree s ws ts out n vs us new a t xs ys put m zs qs oth
 -- an answer of the code that counts as the definition's
 written-is : (r : NormalAnswer) {n : ℕ} → normalAnswer r ≡ Calls.NormalAnswer.written n → r ≡ Written n
 written-is (Written m) {n} e = let q : m ≡ n = cc in ap Written q
-written-is (Refused f) e = let z : _≡_ {A = ℕ} 0 1 = cc in absurd (omega arith)
+written-is (Refused f) e = impossible (cc)
 
 -- all is written
 module _ (s ws ts out : List ℕ) (g : GrammarDeclaration ℕ) (e : reading s ≡ tree g) (h : Room ws ts out g) (r : NormalAnswer) (vs us new : List ℕ) (a : NormalTo s ws ts out r vs us new) where
@@ -185,7 +182,7 @@ normal-text-is-too-long s ws ts out g e h i j r vs us new a =
 pub normal-texts-are-their-own : NormalTextsAreTheirOwn
 normal-texts-are-their-own s ws ts out n vs us new a xs ys put e f i r zs qs other b =
     let k = made s ws ts out n vs us new a in
-    let l = or-left (ltb longest (length (normalText (k .grammar)))) (ltb (length out) (length (normalText (k .grammar)))) (k .room .room) in
+    let l = both-false (ltb longest (length (normalText (k .grammar)))) (ltb (length out) (length (normalText (k .grammar)))) (k .room .room) .0 in
     let c = normal-texts-are-accepted s (k .grammar) (k .reads) (ltb-false longest (length (normalText (k .grammar))) l) in
     again k c
   where

@@ -10,6 +10,7 @@ use lib.ListN.{length, take, drop, length-append, length-take}
 use lib.Seq.{take-append-seam}
 use borrow.Author.Tests.{ltb-true, ltb-false}
 use Rattle.basics.specs.Basics.{if_then_else_}
+use Rattle.basics.proofs.Tests.{impossible}
 use Rattle.error.specs.Causes.{recordsFull, textsFull, outputFull}
 use Rattle.error.specs.Lines.{Refusal, refusalAt}
 use Rattle.error.specs.Promise.{refusalOf}
@@ -23,6 +24,7 @@ use Rattle.writer.specs.declared.Written.the-variants.{Bytes, TooLong}
 use Rattle.grammar.specs.Reading.{Reading, tree, stopped, reading, longest}
 use Rattle.grammar.specs.Calls as Calls
 use Rattle.grammar.specs.Calls.{over, roomFor, readBy, read, ReadOutcome, writeBy, normalBy, normal}
+use Rattle.laws.proofs.Accepted.{not-tree}
 use Rattle.calls.specs.Promise.{readOutcome, ReadTo, Few, normalOutcome, WriteTo, NormalTo}
 use Rattle.calls.specs.declared.ReadAnswer.{ReadAnswer}
 use Rattle.calls.specs.declared.ReadAnswer.the-variants as Read
@@ -32,9 +34,6 @@ use Rattle.calls.proofs.ReadLaws.{reading-long}
 
 -- ------------------------------------------------------------------ a tree that there is room for is the text's
 
-never : {A : Type 0} {n p : ℕ} {g : GrammarDeclaration ℕ} → stopped n p ≡ tree g → A
-never e = let z : _≡_ {A = ℕ} 0 1 = cc in absurd (omega arith)
-
 -- the reading gives it, and its words and bytes fit
 pub record Roomed (words bytes : ℕ) (r : Reading) (g : GrammarDeclaration ℕ) : Type 0 where
   pub is : r ≡ tree g
@@ -43,13 +42,13 @@ pub record Roomed (words bytes : ℕ) (r : Reading) (g : GrammarDeclaration ℕ)
 
 pub roomed : (words bytes : ℕ) (r : Reading) {g : GrammarDeclaration ℕ} → roomFor words bytes r ≡ tree g → Roomed words bytes r g
 unfolding roomFor
-roomed words bytes (stopped n p) e = never e
+roomed words bytes (stopped n p) e = not-tree e
 roomed words bytes (tree h) {g} e = by-tests (ltb words (length (grammarWords h))) (ltb bytes (length (grammarTexts h))) refl refl e
   where
     by-tests : (a b : Bool) → ltb words (length (grammarWords h)) ≡ a → ltb bytes (length (grammarTexts h)) ≡ b
         → (if a then stopped recordsFull 0 else if b then stopped textsFull 0 else tree h) ≡ tree g → Roomed words bytes (tree h) g
-    by-tests true b p q f = never f
-    by-tests false true p q f = never f
+    by-tests true b p q f = not-tree f
+    by-tests false true p q f = not-tree f
     by-tests false false p q f =
         let i : h ≡ g = cc in
         record { is = f; words-fit = rw i at (ltb-false words (length (grammarWords h)) p); bytes-fit = rw i at (ltb-false bytes (length (grammarTexts h)) q) }
@@ -59,7 +58,7 @@ short : (s : List ℕ) {g : GrammarDeclaration ℕ} → reading s ≡ tree g →
 short s {g} e = by-length (ltb longest (length s)) refl
   where
     by-length : (b : Bool) → ltb longest (length s) ≡ b → length s ≤ longest
-    by-length true q = never (sym (reading-long s (ltb-true longest (length s) q)) ∙ e)
+    by-length true q = not-tree (sym (reading-long s (ltb-true longest (length s) q)) ∙ e)
     by-length false q = ltb-false longest (length s) q
 
 -- ------------------------------------------------------------------ the tree that `read` has stored
@@ -73,7 +72,7 @@ pub record Kept (s ws ts vs us : List ℕ) (n : ℕ) : Type 0 where
   pub texts : us ≡ over (grammarTexts grammar) ts
 
 apart : {A : Type 0} {n x : ℕ} {r : Refusal} → Calls.ReadAnswer.stored n x ≡ Calls.ReadAnswer.refused r → A
-apart e = let z : _≡_ {A = ℕ} 0 1 = cc in absurd (omega arith)
+apart e = impossible (cc)
 
 same-words : {n x m y : ℕ} → Calls.ReadAnswer.stored n x ≡ Calls.ReadAnswer.stored m y → n ≡ m
 same-words e = cc
@@ -146,14 +145,14 @@ module _ (s : List ℕ) {ws ts out new : List ℕ} (r : Written) (does : WroteNo
     done-by : {m : ℕ} (b : Bool) → a ≡ Normal.Written m → r ≡ Bytes m → tooLong longest t out ≡ b → r ≡ (if b then TooLong else Bytes (length t))
         → new ≡ (if b then out else t ++ drop (length t) out) → Is
     unfolding writeBy
-    done-by true c q h e o = let z : _≡_ {A = ℕ} 0 1 = cc in absurd (omega arith)
+    done-by true c q h e o = impossible (cc)
     done-by {m} false c q h e o = let l : m ≡ length t = cc in rw (c, h, l, o)
 
     full-by : {f : declared.Refusal} (b : Bool) → a ≡ Normal.Refused f → refusalOf f ≡ refusalAt s outputFull 0 → r ≡ TooLong → tooLong longest t out ≡ b
         → r ≡ (if b then TooLong else Bytes (length t)) → new ≡ (if b then out else t ++ drop (length t) out) → Is
     unfolding writeBy
     full-by true c i q h e o = rw (c, h, i, o)
-    full-by false c i q h e o = let z : _≡_ {A = ℕ} 0 1 = cc in absurd (omega arith)
+    full-by false c i q h e o = impossible (cc)
 
   pub write-done : {m : ℕ} → a ≡ Normal.Written m → r ≡ Bytes m → WriteTo s ws ts out a new
   write-done c q k vs us = done-by k vs us (tooLong longest (t k vs us) out) c q refl (does k .answer) (does k .output)

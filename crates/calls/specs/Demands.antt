@@ -22,6 +22,7 @@ use Rattle.calls.specs.declared.NormalAnswer.{NormalAnswer}
 use Rattle.calls.specs.declared.NormalAnswer.the-variants.{Written}
 use Rattle.calls.specs.declared.CompareAnswer.{CompareAnswer}
 
+-- what a text is read as
 abbrev Tree : Type 0
 Tree = GrammarDeclaration ℕ
 
@@ -33,12 +34,13 @@ ReadIsSettled =
     (s ws ts : List ℕ) (r q : ReadAnswer) (vs us xs ys : List ℕ) → ReadTo s ws ts r vs us → ReadTo s ws ts q xs ys
     → (readOutcome r vs us ≡ readOutcome q xs ys) × (length vs ≡ length ws) × (length us ≡ length ts)
 
--- So do two of `normal_text`, and two of `structurally_eq`.
+-- So do two of `normal_text`.
 abbrev pub NormalTextIsSettled : Type 0
 NormalTextIsSettled =
     (s ws ts out : List ℕ) (r q : NormalAnswer) (vs us new xs ys other : List ℕ) → NormalTo s ws ts out r vs us new → NormalTo s ws ts out q xs ys other
     → (normalOutcome r vs us new ≡ normalOutcome q xs ys other) × (length vs ≡ length ws) × (length us ≡ length ts) × (length new ≡ length out)
 
+-- Two runs of `structurally_eq` on the same arguments answer the same.
 abbrev pub StructurallyEqIsSettled : Type 0
 StructurallyEqIsSettled =
     (ls lts rs rts : List ℕ) (r q : CompareAnswer) → CompareTo ls lts rs rts r → CompareTo ls lts rs rts q → compareAnswer r ≡ compareAnswer q
@@ -61,6 +63,7 @@ pub record Answers (s ws ts : List ℕ) (r : ReadAnswer) (vs us : List ℕ) : Ty
   pub no-words : (g : Tree) → reading s ≡ tree g → length ws < length (grammarWords g) → RefusedAs recordsFull 0 s ws ts r vs us
   pub no-bytes : (g : Tree) → reading s ≡ tree g → length (grammarWords g) ≤ length ws → length ts < length (grammarTexts g) → RefusedAs textsFull 0 s ws ts r vs us
 
+-- Every answer of `read` is so.
 abbrev pub ReadAnswersAsDefined : Type 0
 ReadAnswersAsDefined = (s ws ts : List ℕ) (r : ReadAnswer) (vs us : List ℕ) → ReadTo s ws ts r vs us → Answers s ws ts r vs us
 

@@ -18,14 +18,17 @@ use Rattle.calls.specs.declared.CompareAnswer.the-variants as Compare
 
 -- ------------------------------------------------------------------ answers of the code as those of the definitions
 
+-- the answer of `read`
 abbrev pub readAnswer : ReadAnswer → Calls.ReadAnswer
 readAnswer (Read.Stored n x) = Calls.ReadAnswer.stored n x
 readAnswer (Read.Refused r) = Calls.ReadAnswer.refused (refusalOf r)
 
+-- the answer of `normal_text`
 abbrev pub normalAnswer : NormalAnswer → Calls.NormalAnswer
 normalAnswer (Normal.Written n) = Calls.NormalAnswer.written n
 normalAnswer (Normal.Refused r) = Calls.NormalAnswer.refused (refusalOf r)
 
+-- the answer of `structurally_eq`
 abbrev pub compareAnswer : CompareAnswer → Calls.CompareAnswer
 compareAnswer (Compare.Compared b) = Calls.CompareAnswer.compared b
 compareAnswer (Compare.Refused r) = Calls.CompareAnswer.refused (refusalOf r)
@@ -42,9 +45,11 @@ normalOutcome r ws ts out = record { answer = normalAnswer r; records = ws; text
 
 -- ------------------------------------------------------------------ what the calls promise: just what the definitions say
 
+-- `read` on a text, with records and texts lent
 abbrev pub ReadTo : (text records texts : List ℕ) → ReadAnswer → (recordsAfter textsAfter : List ℕ) → Type 0
 ReadTo s ws ts r vs us = readOutcome r vs us ≡ read s ws ts
 
+-- `normal_text` on a text, with records, texts and output lent
 abbrev pub NormalTo : (text records texts output : List ℕ) → NormalAnswer → (recordsAfter textsAfter outputAfter : List ℕ) → Type 0
 NormalTo s ws ts out r vs us new = normalOutcome r vs us new ≡ normal s ws ts out
 
@@ -54,6 +59,7 @@ WriteTo s ws ts out r new =
     (k : Stored ws ts) (lentWords lentTexts : List ℕ)
     → normalOutcome r (over (grammarWords (k .grammar)) lentWords) (over (grammarTexts (k .grammar)) lentTexts) new ≡ writeBy s lentWords lentTexts out (k .grammar)
 
+-- `structurally_eq` on two trees
 abbrev pub CompareTo : (leftRecords leftTexts rightRecords rightTexts : List ℕ) → CompareAnswer → Type 0
 CompareTo ls lts rs rts r = compareAnswer r ≡ compare ls lts rs rts
 

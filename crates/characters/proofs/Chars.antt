@@ -8,7 +8,7 @@ use native.Mathlib.Nat.{not-suc-le-zero}
 use lib.ListN.{length, take, drop, length-drop, length-append}
 use lib.Seq.{drop-drop, drop-append-seam, take-at}
 use Rattle.characters.specs.Utf8.{firstChar, onChar, encode, codesFrom, codes, encodeAll, width}
-use Rattle.characters.specs.Places.{decodeAt, charsAt, peekAt, past, cut}
+use Rattle.characters.specs.Places.{decodeAt, peekAt, past, cut}
 use Rattle.characters.specs.Promise.{Next}
 use Rattle.characters.specs.declared.Char.{Char}
 use Rattle.characters.specs.declared.Char.the-variants.{Scalar, Ill}

@@ -1,7 +1,7 @@
 -- The bytes of a code, and that they are read as that code.
 -- Assumes nothing.
-use mathlib.Core.Path.{_≡_, refl, ap}
-use mathlib.Core.Bool.{Bool, true, false, _||_}
+use mathlib.Core.Path.{_≡_, ap}
+use mathlib.Core.Bool.{true, false}
 use mathlib.Core.List.{List, [], _∷_, _++_}
 use mathlib.Core.Logic.{_⊎_, inl, inr, ⊎-elim}
 use Prim.Native.Nat.{ℕ, _+_, _*_, _/_, _%_, _≤_, _<_}
@@ -9,11 +9,11 @@ use native.Mathlib.Decide.{decLt}
 use native.Mathlib.Omega.{arith}
 use lib.Dec.{leb, ltb}
 use lib.ListN.{length, getD}
-use borrow.Author.Tests.{lt-ltb, le-ltb, le-leb, ltb-true, ltb-false, leb-true}
-use Rattle.basics.specs.Basics.{if_then_else_, within}
-use Rattle.basics.proofs.Tests.{cases, both-true, within-yes, within-lo, within-hi}
+use borrow.Author.Tests.{lt-ltb, le-ltb, le-leb, ltb-true, leb-true}
+use Rattle.basics.specs.Basics.{within}
+use Rattle.basics.proofs.Tests.{cases, both-true, within-yes, within-hi}
 use Rattle.characters.specs.Utf8.{row, leadLen, charOf, firstChar, isScalar, encode, width}
-use Rattle.characters.specs.declared.Char.the-variants.{Scalar, Ill}
+use Rattle.characters.specs.declared.Char.the-variants.{Scalar}
 
 -- ------------------------------------------------------------------ scalars
 
@@ -90,10 +90,6 @@ module _ (alo ahi blo bhi a b : ℕ) where
   row-yes : alo ≤ a → a ≤ ahi → blo ≤ b → b ≤ bhi → row alo ahi blo bhi a b ≡ true
   unfolding row
   row-yes h h′ g g′ = simp (within-yes alo ahi a h h′, within-yes blo bhi b g g′)
-
-  row-lo : a < alo → row alo ahi blo bhi a b ≡ false
-  unfolding row
-  row-lo h = simp (within-lo alo ahi a h)
 
   row-hi : ahi < a → row alo ahi blo bhi a b ≡ false
   unfolding row

@@ -1,13 +1,13 @@
 -- A text that begins with a character begins with that character's bytes.
 -- Assumes nothing.
 use mathlib.Core.Path.{_≡_, refl, sym, _∙_, ap, ap₂, subst}
-use mathlib.Core.Bool.{Bool, true, false}
+use mathlib.Core.Bool.{true}
 use mathlib.Core.List.{List, [], _∷_, _++_}
-use Prim.Native.Nat.{ℕ, _+_, _*_, _%_, _≤_, _<_}
+use Prim.Native.Nat.{ℕ, _+_, _*_, _%_, _≤_}
 use native.Mathlib.Omega.{arith}
 use lib.ListN.{length, getD, drop}
 use lib.Seq.{drop-append-seam}
-use Rattle.basics.specs.Basics.{if_then_else_, within}
+use Rattle.basics.specs.Basics.{within}
 use Rattle.basics.proofs.Tests.{cases, both-true, within-true}
 use Rattle.characters.specs.Utf8.{row, leadLen, charOf, firstChar, encode, width}
 use Rattle.characters.specs.declared.Char.{Char}

@@ -1,6 +1,6 @@
 -- A character at a place lies within the text, and the check of a text goes on after it.
 -- Assumes nothing.
-use mathlib.Core.Path.{_≡_, refl, sym, _∙_, ap, ap₂}
+use mathlib.Core.Path.{_≡_, refl, _∙_, ap, ap₂}
 use mathlib.Core.List.{List, [], _∷_}
 use Prim.Native.Nat.{ℕ, zero, suc, _+_, _-_, _≤_, _<_}
 use native.Mathlib.Omega.{arith}
@@ -12,7 +12,7 @@ use Rattle.characters.specs.Places.{decodeAt}
 use Rattle.characters.specs.declared.Checked.the-variants.{Good, IllAt}
 use Rattle.characters.specs.declared.Char.the-variants.{Scalar, Ill}
 use Rattle.characters.proofs.Encode.{width-some, as-1}
-use Rattle.characters.proofs.Heads.{Stands, stands}
+use Rattle.characters.proofs.Heads.{stands}
 
 pub first-fits : (l : List ℕ) {c n : ℕ} → firstChar l ≡ Scalar c n → (1 ≤ n) × (n ≤ length l)
 first-fits l {c} {n} e =

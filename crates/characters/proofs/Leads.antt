@@ -6,8 +6,8 @@ use Prim.Native.Nat.{ℕ, _≤_, _<_}
 use native.Mathlib.Decide.{decLt}
 use native.Mathlib.Omega.{arith}
 use lib.Dec.{eqb}
-use borrow.Author.Tests.{eq-eqb, ne-eqb, eqb-true, eqb-false}
-use Rattle.basics.specs.Basics.{if_then_else_, within}
+use borrow.Author.Tests.{eqb-true, eqb-false}
+use Rattle.basics.specs.Basics.{within}
 use Rattle.basics.proofs.Tests.{cases, within-true, within-yes}
 use Rattle.characters.specs.Utf8.{leadLen}
 use Rattle.characters.specs.Promise.{isSecond}

@@ -1,9 +1,9 @@
 -- ASCII bytes are passed without decoding.
 -- Assumes nothing.
-use mathlib.Core.Path.{_≡_, refl, sym, _∙_, ap, ap₂}
+use mathlib.Core.Path.{_≡_, refl, sym, _∙_, ap}
 use mathlib.Core.Bool.{Bool, true, false, _&&_, and-assoc, and-true, and-false}
 use mathlib.Core.List.{List, [], _∷_}
-use Prim.Native.Nat.{ℕ, zero, suc, _+_, _-_, _/_, _≤_, _<_}
+use Prim.Native.Nat.{ℕ, zero, suc, _+_, _/_, _≤_, _<_}
 use native.Mathlib.Nat.{add-zero, le-of-suc-le-suc, not-suc-le-zero}
 use native.Mathlib.Decide.{decLt}
 use native.Mathlib.Numerals.{add-one}
@@ -12,7 +12,7 @@ use lib.Dec.{eqb, ltb}
 use lib.ListN.{length, getD, take, drop, length-drop, drop-of-length-le}
 use lib.Seq.{drop-cons, drop-drop, getD-drop}
 use borrow.Author.Tests.{lt-ltb, le-ltb, ne-eqb, ltb-true}
-use Rattle.basics.specs.Basics.{if_then_else_, every}
+use Rattle.basics.specs.Basics.{every}
 use Rattle.basics.proofs.Tests.{cases, both-true}
 use Rattle.characters.specs.Utf8.{onChar, checkFrom}
 use Rattle.characters.specs.Places.{run}
@@ -39,11 +39,6 @@ module _ (p : ℕ → Bool) where
       let b = both-true (p x) (every p (take n l)) e in
       let r = run-block l n (le-of-suc-le-suc h) (b .1) in
       run-yes p x l (b .0) ∙ (omega arith)
-
-  pub run-size : (l : List ℕ) → run p l ≤ length l
-  unfolding run
-  run-size [] = omega arith
-  run-size (x ∷ l) = let r = run-size l in cases (p x) (λ e. rw (e, run) (omega arith)) (λ e. rw (e, run) (omega arith))
 
   -- the run from a place on
   module _ (s : List ℕ) (at : ℕ) where

@@ -1,12 +1,13 @@
 -- A text that passes the check is the bytes of its characters.
 -- Assumes nothing.
 use mathlib.Core.Path.{_≡_, refl, sym, _∙_, ap}
-use mathlib.Core.List.{List, [], _∷_, _++_}
+use mathlib.Core.List.{List, _++_}
 use Prim.Native.Nat.{ℕ, zero, suc, _+_, _-_, _≤_, _<_}
 use native.Mathlib.Omega.{arith}
 use native.Mathlib.Decide.{decLt}
 use lib.ListN.{length, drop, drop-of-length-le}
 use lib.Seq.{drop-drop}
+use Rattle.basics.proofs.Tests.{impossible}
 use Rattle.characters.specs.Utf8.{encode, encodeAll, codes, checkFrom, check}
 use Rattle.characters.specs.Places.{decodeAt, charsAt}
 use Rattle.characters.specs.declared.Char.{Char}
@@ -29,7 +30,7 @@ one s at Ill e r h = elim (decLt at (length s)) [ yes l ↦ never (sym (check-ba
     out l = omega arith
 
     never : IllAt at ≡ Good → encodeAll (charsAt s at) ≡ drop at s
-    never q = let z : _≡_ {A = ℕ} 0 1 = cc in absurd (omega arith)
+    never q = impossible (cc)
 
 all : (k : ℕ) (s : List ℕ) (at : ℕ) → length s - at ≤ k → GoodAt s at
 all zero s at h = one s at (decodeAt s at) refl (λ n f g. absurd (omega arith))

@@ -1,18 +1,16 @@
 -- Bytes written where they fit.
 -- Assumes nothing.
 use mathlib.Core.Path.{_≡_, refl, sym, _∙_, ap}
-use mathlib.Core.Bool.{true, false}
+use mathlib.Core.Bool.{false}
 use mathlib.Core.List.{List, [], _∷_, _++_, append-assoc, append-nil}
 use Prim.Native.Nat.{ℕ, _+_, _-_, _≤_, _<_}
 use native.Mathlib.Omega.{arith}
 use native.Mathlib.Decide.{decLe}
-use lib.Dec.{leb}
 use lib.ListN.{take-append-drop, length, take, drop, length-append, length-drop, drop-of-length-le}
 use lib.Seq.{sets, sets-eq, length-take-le, take-all, take-at, drop-at, drop-drop}
 use borrow.Rule.Slice.PartMut.{putMid}
 use borrow.Author.Tests.{le-leb, lt-leb}
-use Rattle.basics.specs.Basics.{if_then_else_}
-use Rattle.characters.specs.Utf8.{isScalar, encode, encodeAll, width}
+use Rattle.characters.specs.Utf8.{isScalar, encode, encodeAll}
 use Rattle.characters.specs.Promise.{scalarBytes, written, writtenAll}
 use Rattle.characters.proofs.Encode.{IsScalar}
 

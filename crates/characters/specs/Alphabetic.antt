@@ -115,5 +115,6 @@ spans =
     127312 upto 127338 ∷ 127344 upto 127370 ∷ 131072 upto 173792 ∷ 173824 upto 178206 ∷ 178208 upto 183982 ∷ 183984 upto 191457 ∷
     191472 upto 192094 ∷ 194560 upto 195102 ∷ 196608 upto 201547 ∷ 201552 upto 210042 ∷ []
 
+-- a code has the property
 unfoldable pub isAlphabetic : ℕ → Bool
 isAlphabetic c = inSpans spans c

@@ -2,7 +2,7 @@
 -- Assumes nothing.
 use Prim.Native.Nat.{ℕ, _+_, _≤_, _<_}
 use mathlib.Core.Path.{_≡_}
-use mathlib.Core.Bool.{Bool, true, false, _&&_, _||_}
+use mathlib.Core.Bool.{Bool, true, _&&_, _||_}
 use mathlib.Core.List.{List, [], _∷_, _++_}
 use lib.Dec.{leb, ltb, eqb}
 use lib.ListN.{length, getD, take, drop}
@@ -42,12 +42,15 @@ writtenAll out at (c ∷ cs) = writtenAll (written out at (encode c)) (at + widt
 unfoldable pub scalarBytes : ℕ → List ℕ
 scalarBytes c = if isScalar c then encode c else []
 
+-- an ASCII letter: below 0x80, Alphabetic is that
 unfoldable pub isAsciiLetter : ℕ → Bool
 isAsciiLetter c = within 0x41 0x5A c || within 0x61 0x7A c
 
+-- ASCII white space: below 0x80, White_Space is that
 unfoldable pub isAsciiSpace : ℕ → Bool
 isAsciiSpace c = eqb c 0x20 || within 0x09 0x0D c
 
+-- an ASCII character of names
 unfoldable pub isAsciiWord : ℕ → Bool
 isAsciiWord c = is "_" c || is "-" c || within 0x30 0x39 c || isAsciiLetter c
 

@@ -1,7 +1,7 @@
 -- Spans of codes.
 -- Assumes nothing.
-use Prim.Native.Nat.{ℕ, suc}
-use mathlib.Core.Bool.{Bool, true, false, _&&_, _||_}
+use Prim.Native.Nat.{ℕ}
+use mathlib.Core.Bool.{Bool, false, _&&_, _||_}
 use mathlib.Core.List.{List, [], _∷_}
 use lib.Dec.{leb, ltb}
 
@@ -11,9 +11,11 @@ pub record Span : Type 0 where
   pub past : ℕ
 
 infix 68 _upto_
+-- a span by its first code and one past its last
 abbrev pub _upto_ : ℕ → ℕ → Span
 a upto b = record { first = a; past = b }
 
+-- x lies in the span
 abbrev pub inSpan : Span → ℕ → Bool
 inSpan s x = leb (s .first) x && ltb x (s .past)
 

@@ -1,6 +1,6 @@
 -- UTF-8 by Unicode's table 3-7, Well-Formed UTF-8 Byte Sequences, and table 3-6, the bits of a code. Numbers as the tables have them.
 -- Assumes nothing.
-use mathlib.Core.Bool.{Bool, true, false, _&&_, _||_}
+use mathlib.Core.Bool.{Bool, _&&_, _||_}
 use mathlib.Core.List.{List, [], _∷_, _++_}
 use Prim.Native.Nat.{ℕ, zero, suc, _+_, _-_, _*_, _/_, _%_}
 use lib.Dec.{leb, ltb, eqb}
@@ -65,6 +65,7 @@ codesFrom j [] = []
 codesFrom (suc j) (x ∷ xs) = codesFrom j xs
 codesFrom zero (x ∷ xs) = onChar (firstChar (x ∷ xs)) (λ c n. c ∷ codesFrom (n - 1) xs) []
 
+-- the characters of a text up to its end, or to its first ill-formed sequence
 abbrev pub codes : List ℕ → List ℕ
 codes text = codesFrom 0 text
 

@@ -1,7 +1,6 @@
 -- Lines and columns of places in bytes: `line_info` of the Rust.
 -- Assumes nothing.
-use Prim.Native.Nat.{ℕ, zero, suc, _+_, _-_}
-use mathlib.Core.Bool.{Bool, true, false}
+use Prim.Native.Nat.{ℕ, _+_, _-_}
 use mathlib.Core.List.{List, [], _∷_}
 use lib.ListN.{take}
 use Rattle.basics.specs.Basics.{if_then_else_, is}

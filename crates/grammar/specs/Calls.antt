@@ -1,8 +1,8 @@
 -- The library's calls: for any arguments, what each answers and what every lent buffer holds afterwards.
 -- Assumes nothing.
 use Prim.Native.Nat.{ℕ}
-use mathlib.Core.Bool.{Bool, true, false, _||_}
-use mathlib.Core.List.{List, [], _∷_, _++_}
+use mathlib.Core.Bool.{Bool, _||_}
+use mathlib.Core.List.{List, [], _++_}
 use mathlib.Core.Option.{Option, none, some}
 use lib.Dec.{ltb}
 use lib.ListN.{length, drop}
@@ -37,11 +37,13 @@ pub data ReadAnswer : Type 0 where
   stored : (words bytes : ℕ) → ReadAnswer
   refused : Refusal → ReadAnswer
 
+-- what `read` comes to: its answer, and what records and texts hold afterwards
 pub record ReadOutcome : Type 0 where
   pub answer : ReadAnswer
   pub records : List ℕ
   pub texts : List ℕ
 
+-- by what the reading gave: the tree is stored and its sizes are answered, or all is left as it was
 abbrev pub readBy : (text records texts : List ℕ) → Reading → ReadOutcome
 readBy text records texts (stopped n p) = record { answer = refused (refusalAt text n p); records = records; texts = texts }
 readBy text records texts (tree g) =
@@ -51,6 +53,7 @@ readBy text records texts (tree g) =
       texts = over (grammarTexts g) texts;
     }
 
+-- `read`: the tree of a text in the records and texts that are lent
 unfoldable pub read : (text records texts : List ℕ) → ReadOutcome
 unfolding lineFeeds lineStart lineAt columnAt refusalAt reading roomFor grammarWords grammarTexts
 read text records texts = readBy text records texts (roomFor (length records) (length texts) (reading text))
@@ -62,6 +65,7 @@ pub data NormalAnswer : Type 0 where
   written : (bytes : ℕ) → NormalAnswer
   refused : Refusal → NormalAnswer
 
+-- what `normal_text` comes to: its answer, and what records, texts and output hold afterwards
 pub record NormalOutcome : Type 0 where
   pub answer : NormalAnswer
   pub records : List ℕ
@@ -79,12 +83,14 @@ writeBy text records texts output g =
     then record { answer = refused (refusalAt text outputFull 0); records = rs; texts = ts; output = output }
     else record { answer = written (length t); records = rs; texts = ts; output = over t output }
 
+-- by what the reading gave: its tree is stored and written, or all is left as it was
 unfoldable pub normalBy : (text records texts output : List ℕ) → Reading → NormalOutcome
 unfolding lineFeeds lineStart lineAt columnAt refusalAt writeBy
 normalBy text records texts output (stopped n p) =
     record { answer = refused (refusalAt text n p); records = records; texts = texts; output = output }
 normalBy text records texts output (tree g) = writeBy text records texts output g
 
+-- `normal_text`: the normal text of a text in the output that is lent, and its tree in records and texts
 unfoldable pub normal : (text records texts output : List ℕ) → NormalOutcome
 unfolding reading roomFor normalBy
 normal text records texts output = normalBy text records texts output (roomFor (length records) (length texts) (reading text))
@@ -96,11 +102,13 @@ pub data CompareAnswer : Type 0 where
   compared : (equal : Bool) → CompareAnswer
   refused : Refusal → CompareAnswer
 
+-- by the two trees, of which either may be none
 abbrev pub compareBy : Option Branch → Option Branch → CompareAnswer
 compareBy (some b) (some c) = compared (structurallyEq b c)
 compareBy (some b) none = refused (refusalAt [] notATree 0)
 compareBy none c = refused (refusalAt [] notATree 0)
 
+-- `structurally_eq`: two stored expressions
 unfoldable pub compare : (leftRecords leftTexts rightRecords rightTexts : List ℕ) → CompareAnswer
 unfolding lineFeeds lineStart lineAt columnAt refusalAt build structurallyEq
 compare lr lt rr rt = compareBy (build isExpression lr lt) (build isExpression rr rt)

@@ -1,15 +1,15 @@
 -- The calls at their edges: buffers exactly full, one short, and what they hold afterwards; trees that compare, and words that are none.
 -- Assumes nothing.
 use Prim.Native.Nat.{ℕ}
-use Prim.Native.String.{String}
 use mathlib.Core.Path.{_≡_, refl}
-use mathlib.Core.Bool.{Bool, true, false}
+use mathlib.Core.Bool.{true, false}
 use mathlib.Core.List.{List, [], _∷_, _++_}
 use lib.ListN.{replicate}
 use Rattle.error.specs.Lines.{Refusal}
-use Rattle.grammar.specs.Calls.{ReadAnswer, stored, ReadOutcome, read, NormalAnswer, written, NormalOutcome, normal, CompareAnswer, compared, compare}
+use Rattle.grammar.specs.Calls.{ReadAnswer, stored, read, NormalAnswer, written, normal, CompareAnswer, compared, compare}
 use Rattle.grammar.specs.Marked.{bytes}
 
+-- the refusal by a cause at place 0
 abbrev at0 : ℕ → Refusal
 at0 cause = record { cause = cause; place = 0; line = 1; column = 0 }
 
@@ -25,15 +25,17 @@ pub past-the-tree :
 unfolding bytes read
 past-the-tree = refl
 
+-- words and bytes just enough
 pub exactly-full : read (bytes "@top T{}") (replicate 21 9) (7 ∷ []) ≡ record { answer = stored 21 1; records = three; texts = 84 ∷ [] }
 unfolding bytes read
 exactly-full = refl
 
--- 22 before 23, and both leave all as it was
+-- a word too few, and no bytes: 22 comes before 23, and leaves all as it was
 pub a-word-short : read (bytes "@top T{}") (replicate 20 9) [] ≡ record { answer = ReadAnswer.refused (at0 22); records = replicate 20 9; texts = [] }
 unfolding bytes read
 a-word-short = refl
 
+-- a byte too few
 pub a-byte-short : read (bytes "@top T{}") (replicate 21 9) [] ≡ record { answer = ReadAnswer.refused (at0 23); records = replicate 21 9; texts = [] }
 unfolding bytes read
 a-byte-short = refl
@@ -53,6 +55,7 @@ cut-off = refl
 
 -- ------------------------------------------------------------------ normal text
 
+-- an output just long enough
 pub text-exactly-full :
     normal (bytes "@top T{}") (replicate 21 9) (7 ∷ []) (replicate 11 5)
     ≡ record { answer = written 11; records = three; texts = 84 ∷ []; output = bytes "@top T { }\n" }
@@ -68,7 +71,7 @@ output-short = refl
 
 -- ------------------------------------------------------------------ compare
 
--- two words: what is compared, of records and texts on each side
+-- the words of the expression `_`
 abbrev any : List ℕ
 any = 39 ∷ 0 ∷ 0 ∷ 0 ∷ 0 ∷ 0 ∷ 0 ∷ []
 
@@ -91,23 +94,27 @@ pub empties-differ : compare (34 ∷ 0 ∷ 0 ∷ 0 ∷ 1 ∷ 0 ∷ 0 ∷ []) [] 
 unfolding compare
 empties-differ = refl
 
--- no tree: a repeat of nothing; a prop at the root; no records; six words; a text past the texts
+-- what is no tree of an expression. A repeat of nothing
 pub no-operand : compare (35 ∷ 0 ∷ 0 ∷ 0 ∷ 0 ∷ 0 ∷ 0 ∷ []) [] any [] ≡ CompareAnswer.refused (at0 25)
 unfolding compare
 no-operand = refl
 
+-- a prop at the root
 pub prop-at-root : compare any [] (5 ∷ 0 ∷ 0 ∷ 0 ∷ 0 ∷ 0 ∷ 0 ∷ []) [] ≡ CompareAnswer.refused (at0 25)
 unfolding compare
 prop-at-root = refl
 
+-- no records
 pub no-records : compare [] [] any [] ≡ CompareAnswer.refused (at0 25)
 unfolding compare
 no-records = refl
 
+-- six words
 pub six-words : compare any [] (39 ∷ 0 ∷ 0 ∷ 0 ∷ 0 ∷ 0 ∷ []) [] ≡ CompareAnswer.refused (at0 25)
 unfolding compare
 six-words = refl
 
+-- a text past the texts
 pub text-outside : compare (36 ∷ 0 ∷ 0 ∷ 2 ∷ 0 ∷ 0 ∷ 0 ∷ []) (97 ∷ []) any [] ≡ CompareAnswer.refused (at0 25)
 unfolding compare
 text-outside = refl

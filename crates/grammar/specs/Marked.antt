@@ -4,11 +4,10 @@ use Prim.Native.Nat.{ℕ}
 use Prim.Native.String.{String}
 use mathlib.Core.Path.{_≡_, refl}
 use mathlib.Core.Bool.{Bool, true, false, _&&_, not}
-use mathlib.Core.List.{List, [], _∷_, _++_}
+use mathlib.Core.List.{List, [], _∷_}
 use lib.Dec.{eqb}
 use Rattle.basics.specs.Basics.{letters, same}
 use Rattle.characters.specs.Utf8.{encode, encodeAll}
-use Rattle.tree.specs.Records.{Record, words}
 use Rattle.tree.specs.Stored.{grammarWords}
 use Rattle.tree.specs.Equality.{agree}
 use Rattle.tree.specs.Syntax.{GrammarDeclaration}
@@ -16,6 +15,7 @@ use Rattle.spelling.specs.NormalText.{normalText}
 use Rattle.grammar.specs.Reading.{Reading, tree, stopped, reading}
 use Rattle.grammar.specs.Program.{printed}
 
+-- what is claimed of a text
 pub data Claim : Type 0 where
   -- the text is refused by a cause at a place
   stops : (text : String) → (cause place : ℕ) → Claim
@@ -27,21 +27,26 @@ pub data Claim : Type 0 where
   -- the text's normal text
   writes : (text normal : String) → Claim
 
+-- the bytes of a quoted text
 unfoldable pub bytes : String → List ℕ
 unfolding encode encodeAll
 bytes s = encodeAll (letters s)
 
+-- the reading is stopped by this cause at this place
 abbrev pub stoppedBy : Reading → ℕ → ℕ → Bool
 stoppedBy (stopped n p) m q = eqb n m && eqb p q
 stoppedBy (tree g) m q = false
 
+-- there is a tree, and it passes the test
 abbrev pub ofTree : (GrammarDeclaration ℕ → Bool) → Reading → Bool
 ofTree test (tree g) = test g
 ofTree test (stopped n p) = false
 
+-- there are two trees, and they pass the test
 abbrev pub ofTrees : (GrammarDeclaration ℕ → GrammarDeclaration ℕ → Bool) → Reading → Reading → Bool
 ofTrees test r q = ofTree (λ g. ofTree (test g) q) r
 
+-- the definitions bear the claim out
 unfoldable pub right : Claim → Bool
 unfolding same bytes reading agree grammarWords normalText
 right (stops s n p) = stoppedBy (reading (bytes s)) n p
@@ -58,6 +63,7 @@ wrong (c ∷ cs) = elim (right c) [ true ↦ wrong cs | false ↦ c ∷ wrong cs
 
 -- ------------------------------------------------------------------ the marked texts
 
+-- the claims about them
 abbrev pub marked : List Claim
 marked =
     stops "" 14 0
@@ -78,6 +84,7 @@ marked =
     ∷ stops "/*" 4 0
     ∷ []
 
+-- none of these claims is wrong
 pub marked-right : wrong marked ≡ []
 unfolding wrong
 marked-right = refl
@@ -87,12 +94,14 @@ pub sample : printed (bytes "@top T{a*|\"b\"} a{$[x-z]}") ≡ bytes "@top T { a 
 unfolding bytes printed
 sample = refl
 
+-- a refusal, as it is printed
 pub sample-refused : printed (bytes "@top T{}\na{\n b|}") ≡ bytes "refused 17 at 15 line 3 column 3\n"
 unfolding bytes printed
 sample-refused = refl
 
 -- ------------------------------------------------------------------ edges
 
+-- the claims about them
 abbrev pub edges : List Claim
 edges =
     -- two empty arguments, and no comma after the last elsewhere
@@ -139,6 +148,7 @@ edges =
     ∷ stops "@top T{a*****************************************************************\"" 3 72
     ∷ []
 
+-- none of these claims is wrong
 pub edges-right : wrong edges ≡ []
 unfolding wrong
 edges-right = refl

@@ -2,19 +2,20 @@
 -- Assumes nothing.
 use Prim.Native.Nat.{ℕ, zero, suc, _+_, _/_, _%_}
 use Prim.Native.Char.{code}
-use mathlib.Core.Bool.{Bool, true, false}
-use mathlib.Core.List.{List, [], _∷_, _++_}
+use mathlib.Core.Bool.{true, false}
+use mathlib.Core.List.{List, _∷_, _++_}
 use lib.Dec.{ltb}
 use lib.ListN.{take, replicate}
 use Rattle.basics.specs.Basics.{letters}
 use Rattle.error.specs.Lines.{Refusal}
-use Rattle.grammar.specs.Calls.{NormalAnswer, written, refused, NormalOutcome, normal}
+use Rattle.grammar.specs.Calls.{NormalAnswer, written, refused, normal}
 
 -- n in decimal, and then the rest; at most so many digits
 unfoldable pub decimalFrom : (digits n : ℕ) → List ℕ → List ℕ
 decimalFrom zero n rest = rest
 decimalFrom (suc k) n rest = elim (ltb n 10) [ true ↦ (code "0" + n) ∷ rest | false ↦ decimalFrom k (n / 10) ((code "0" + n % 10) ∷ rest) ]
 
+-- n in decimal, and then the rest. A number of the code has at most 20 digits
 abbrev pub decimal : ℕ → List ℕ → List ℕ
 decimal n rest = decimalFrom 20 n rest
 
@@ -25,6 +26,7 @@ refusalLine r =
     letters "refused " ++ decimal (r .cause) (letters " at " ++ decimal (r .place) (letters " line " ++ decimal (r .line)
     (letters " column " ++ decimal (r .column) (letters "\n"))))
 
+-- the normal text, which stands at the front of the output, or the line of the refusal
 abbrev pub printedBy : NormalAnswer → (output : List ℕ) → List ℕ
 printedBy (written n) output = take n output
 printedBy (refused r) output = refusalLine r

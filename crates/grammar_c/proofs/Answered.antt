@@ -4,7 +4,7 @@ use Prim.Native.Nat.{ℕ}
 use mathlib.Core.Path.{_≡_, ap, _∙_}
 use mathlib.Core.Bool.{Bool}
 use mathlib.Core.List.{List, [], _∷_}
-use Rattle.answers.specs.Words.{laid}
+use Rattle.answers.specs.Words.{laid, bit}
 use Rattle.error.specs.declared.Refusal.{Refusal}
 use Rattle.error.specs.Promise.{refusalOf}
 use Rattle.grammar.specs.Calls as Calls
@@ -16,7 +16,7 @@ use Rattle.calls.specs.declared.NormalAnswer.{NormalAnswer}
 use Rattle.calls.specs.declared.NormalAnswer.the-variants as Normal
 use Rattle.calls.specs.declared.CompareAnswer.{CompareAnswer}
 use Rattle.calls.specs.declared.CompareAnswer.the-variants as Compare
-use Rattle.grammar_c.specs.Answers.{refusalWords, readWords, normalWords, bit, compareWords, ReadsTo, WritesTo, ComparesTo}
+use Rattle.grammar_c.specs.Answers.{refusalWords, readWords, normalWords, compareWords, ReadsTo, WritesTo, ComparesTo}
 
 module _ (s rs ts ws : List ℕ) {rs₁ ts₁ ws₁ : List ℕ} (r : ReadAnswer) (e : ReadTo s rs ts r rs₁ ts₁) where
   answered : ws₁ ≡ laid (readWords (readAnswer r)) ws → ReadsTo s rs ts ws rs₁ ts₁ ws₁

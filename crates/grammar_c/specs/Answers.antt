@@ -2,9 +2,8 @@
 -- Assumes nothing.
 use Prim.Native.Nat.{ℕ}
 use mathlib.Core.Path.{_≡_}
-use mathlib.Core.Bool.{Bool, true, false}
 use mathlib.Core.List.{List, [], _∷_}
-use Rattle.answers.specs.Words.{laid}
+use Rattle.answers.specs.Words.{laid, bit}
 use Rattle.error.specs.Lines.{Refusal}
 use Rattle.grammar.specs.Calls.{ReadAnswer, stored, read, NormalAnswer, written, normal, CompareAnswer, compared, compare}
 
@@ -23,18 +22,15 @@ normalWords (written bytes) = 0 ∷ 0 ∷ 0 ∷ 0 ∷ bytes ∷ 0 ∷ []
 normalWords (NormalAnswer.refused r) = refusalWords r
 
 -- no cause, and 1 for equal
-abbrev pub bit : Bool → ℕ
-bit false = 0
-bit true = 1
-
 abbrev pub compareWords : CompareAnswer → List ℕ
 compareWords (compared equal) = 0 ∷ 0 ∷ 0 ∷ 0 ∷ bit equal ∷ 0 ∷ []
 compareWords (CompareAnswer.refused r) = refusalWords r
 
--- what a text, and all that is lent, come to
+-- what a text comes to where its tree is asked for
 abbrev pub ReadsTo : (text records texts answer recordsAfter textsAfter answerAfter : List ℕ) → Type 0
 ReadsTo s rs ts ws rs₁ ts₁ ws₁ = (rs₁ ≡ read s rs ts .records) × (ts₁ ≡ read s rs ts .texts) × (ws₁ ≡ laid (readWords (read s rs ts .answer)) ws)
 
+-- what a text comes to where its normal text is asked for
 abbrev pub WritesTo : (text records texts output answer recordsAfter textsAfter outputAfter answerAfter : List ℕ) → Type 0
 WritesTo s rs ts out ws rs₁ ts₁ out₁ ws₁ =
     (rs₁ ≡ normal s rs ts out .records) × (ts₁ ≡ normal s rs ts out .texts) × (out₁ ≡ normal s rs ts out .output)

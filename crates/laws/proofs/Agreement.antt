@@ -2,16 +2,16 @@
 -- Assumes nothing.
 use Prim.Native.Nat.{ℕ}
 use mathlib.Core.Path.{_≡_, refl, ap, sym, _∙_}
-use mathlib.Core.Bool.{Bool, true, false, _&&_}
-use mathlib.Core.List.{List, [], _∷_, _++_, map}
+use mathlib.Core.Bool.{true, _&&_}
+use mathlib.Core.List.{List, [], _∷_, map}
 use mathlib.Core.Option.{Option, none, some}
 use Rattle.basics.specs.Basics.{same}
 use Rattle.basics.proofs.Tests.{both-true}
 use Rattle.characters.specs.Spans.{Span}
-use Rattle.tree.specs.Records.{Row, Branch, branch, Branches, []ᴮ, _∷ᴮ_, records, texts}
-use Rattle.tree.specs.Stored.{valued, each, flag, partBranch, propBranch, markerBranch, spanBranch, expressionBranch, expressionBranches, slotBranches, nameBranch, sourceBranch, ruleBranch, referenceBranch, tokenPrecBranch, tokenConflictBranch, literalBranch, namedNodeBranch, fallbackBranches, precItemBranch, declarationBranch, externalPropBranch, grammarBranch, grammarRecords, grammarTexts}
+use Rattle.tree.specs.Records.{Branch, Branches, []ᴮ, _∷ᴮ_, records, texts}
+use Rattle.tree.specs.Stored.{each, partBranch, propBranch, markerBranch, spanBranch, expressionBranch, expressionBranches, slotBranches, nameBranch, ruleBranch, referenceBranch, tokenPrecBranch, tokenConflictBranch, literalBranch, namedNodeBranch, fallbackBranches, precItemBranch, declarationBranch, externalPropBranch, grammarBranch}
 use Rattle.tree.specs.Equality.{allAgreeing, agree}
-use Rattle.tree.specs.Syntax.{Identifier, PropPart, value, Prop, ConflictMarker, Expression, special, inline, choice, sequence, empty, repeat, set, any, class, Expressions, []ᴱ, _∷ᴱ_, Slots, last, slot, RuleDeclaration, TokenReference, referred, TokenPrecDeclaration, TokenConflictDeclaration, LiteralDeclaration, NamedNode, ExternalPropDeclaration, PrecItem, Declaration, topRule, rule, tokens, localTokens, context, externalTokens, externalSpecializer, externalPropSource, precedences, mainSkip, scopedSkip, GrammarDeclaration, startOf}
+use Rattle.tree.specs.Syntax.{Identifier, PropPart, value, Prop, ConflictMarker, Expression, special, inline, choice, sequence, empty, repeat, set, any, class, Expressions, []ᴱ, _∷ᴱ_, Slots, last, slot, RuleDeclaration, TokenReference, TokenPrecDeclaration, TokenConflictDeclaration, LiteralDeclaration, NamedNode, ExternalPropDeclaration, PrecItem, Declaration, topRule, rule, tokens, localTokens, context, externalTokens, externalSpecializer, externalPropSource, precedences, mainSkip, scopedSkip, GrammarDeclaration, startOf}
 use Rattle.laws.specs.Starts.{onIdentifier, onPart, onProp, onMarker, onExpression, onExpressions, onSlots, onRule, onReference, onTokenPrec, onTokenConflict, onLiteral, onNamedNode, onFallback, onPrecItem, onExternalProp, onDeclaration, onGrammar, bare}
 use Rattle.laws.proofs.Fine.{U}
 use Rattle.tree.proofs.Known.{bareBranch, bareBranches, agreed, agrees}
@@ -19,6 +19,7 @@ use Rattle.laws.proofs.Good.{GoodGrammar}
 use Rattle.laws.proofs.Decode.{grammarIn}
 use Rattle.laws.proofs.DecodeBackExpressions.{zeroed}
 use Rattle.laws.proofs.DecodeBack.{grammar-branch, grammar-back}
+use Rattle.laws.proofs.AlikeExpressions.{start-of}
 
 abbrev out : ℕ → U
 out p = tt
@@ -35,10 +36,6 @@ part-bare : (x : PropPart ℕ) → bareBranch (partBranch x) ≡ partBranch (onP
 unfolding bareBranch
 part-bare (value p t) = refl
 part-bare (PropPart.name p t) = refl
-
-none-bare : bareBranches []ᴮ ≡ []ᴮ
-unfolding bareBranch
-none-bare = refl
 
 prop-bare : (x : Prop ℕ) → bareBranch (propBranch x) ≡ propBranch (onProp zeroed (onProp out x))
 unfolding bareBranch
@@ -93,10 +90,6 @@ name-bare : (k : ℕ) (n : Identifier ℕ) → bareBranch (nameBranch k n) ≡ n
 unfolding bareBranch
 name-bare k n = refl
 
-source-bare : (s : List ℕ) → bareBranch (sourceBranch s) ≡ sourceBranch s
-unfolding bareBranch
-source-bare s = refl
-
 rule-bare : (k : ℕ) (r : RuleDeclaration ℕ) → bareBranch (ruleBranch k r) ≡ ruleBranch k (onRule zeroed (onRule out r))
 unfolding bareBranch
 rule-bare k r =
@@ -134,18 +127,7 @@ unfolding bareBranch
 prec-item-bare x = refl
 
 start-zero : (e : Expression ℕ) → startOf (Z e) ≡ 0
-unfolding onExpression
-start-zero (Expression.name p t es) = refl
-start-zero (special p k ps e f) = refl
-start-zero (inline p t ps e) = refl
-start-zero (choice p es) = refl
-start-zero (sequence p s) = refl
-start-zero (empty p) = refl
-start-zero (repeat p k e) = refl
-start-zero (Expression.literal p t) = refl
-start-zero (set p i ss) = refl
-start-zero (any p) = refl
-start-zero (class p c) = refl
+start-zero e = start-of zeroed (onExpression out e)
 
 nodes-bare : (xs : List (NamedNode ℕ)) (bs cs : Branches) → bareBranches bs ≡ cs → bareBranches (each namedNodeBranch xs bs) ≡ each namedNodeBranch (map (onNamedNode zeroed) (map (onNamedNode out) xs)) cs
 nodes-bare = each-bare (onNamedNode out) (onNamedNode zeroed) namedNodeBranch node-bare

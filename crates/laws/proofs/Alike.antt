@@ -3,15 +3,14 @@
 use Prim.Native.Nat.{ℕ, zero, suc}
 use Prim.Native.Char.{Char}
 use Prim.Native.String.{String}
-use mathlib.Core.Path.{_≡_, refl, ap, sym, _∙_}
+use mathlib.Core.Path.{_≡_, refl, ap}
 use mathlib.Core.Bool.{Bool, true, false}
-use mathlib.Core.List.{List, [], _∷_, _++_, map}
+use mathlib.Core.List.{List, [], _∷_, _++_, map, map-append}
 use mathlib.Core.Option.{Option, none, some}
-use Rattle.lexer.specs.Tokens.{Kind, Tokens, token, eof, bad}
-use Rattle.tree.specs.Syntax.{Identifier}
-use Rattle.notation.specs.Parser.{Answer, read, refused, Parser, andThen, _>>=_, _>>_, pure, refuse, choose, startOf, here, refuseHere, unexpected, kindOf, kind, arrive, next, nameIn, atIn, stringIn, isMark, says, eatIf, eat, eatName, eatAt, must, expect, expectName, taken, expectString, parseIdentifier, size, turns, loop, separate, untilStep, until, comma, commaOrNot, nothing}
+use Rattle.lexer.specs.Tokens.{Tokens, token, eof, bad}
+use Rattle.notation.specs.Parser.{Answer, read, refused, Parser, andThen, _>>=_, _>>_, pure, refuse, choose, startOf, here, refuseHere, kindOf, kind, arrive, next, eatIf, eat, eatName, eatAt, must, expect, expectName, taken, expectString, parseIdentifier, size, turns, loop, separate, untilStep, until, commaOrNot}
 use Rattle.laws.specs.Starts.{onTokens, onAnswer, onIdentifier}
-use Rattle.laws.proofs.Lists.{onOption, map-append}
+use Rattle.laws.proofs.Lists.{onOption}
 
 -- q gives on the tokens with other starts what p gives, with those starts
 pub record Alike {S T A B : Type 0} (f : S → T) (g : A → B) (p : Parser S A) (q : Parser T B) : Type 0 where

@@ -1,24 +1,24 @@
 -- The parsers of props, rules and expressions commute with replacing starts.
 -- Assumes nothing.
 use Prim.Native.Nat.{ℕ, zero, suc, _+_}
-use mathlib.Core.Path.{_≡_, refl, ap, sym, _∙_}
+use mathlib.Core.Path.{_≡_, refl, ap, _∙_}
 use mathlib.Core.Bool.{Bool, true, false, _&&_, _||_}
-use mathlib.Core.List.{List, [], _∷_, _++_, map}
+use mathlib.Core.List.{List, [], _∷_, _++_, map, map-append, map-id}
 use mathlib.Core.Option.{Option, none, some}
 use lib.Dec.{eqb}
-use lib.ListN.{length, length-map}
+use lib.ListN.{length}
 use Rattle.basics.specs.Basics.{if_then_else_, letters, is, spells}
 use Rattle.characters.specs.Spans.{Span}
 use Rattle.lexer.specs.Tokens.{Kind}
 use Rattle.lexer.specs.Escapes.{decodeString}
 use Rattle.lexer.specs.Sets.{spans, fault}
 use Rattle.tree.specs.CharClasses.{fromName}
-use Rattle.tree.specs.Syntax.{Identifier, PropPart, Prop, ConflictMarker, ConflictMarkerKind, SpecializeKind, RepeatKind, CharClass, Expression, Expressions, []ᴱ, _∷ᴱ_, Slots, last, slot, RuleDeclaration, TokenReference, startOf, expressions}
-use Rattle.notation.specs.Parser.{Answer, Parser, _>>=_, _>>_, pure, refuse, choose, here, kind, refuseHere, unexpected, next, markIn, nameIn, atIn, isMark, says, endsSequence, eat, expect, parseIdentifier, loop, until, comma}
+use Rattle.tree.specs.Syntax.{Identifier, ConflictMarker, ConflictMarkerKind, SpecializeKind, RepeatKind, CharClass, Expression, _∷ᴱ_, Slots, last, slot, RuleDeclaration, TokenReference, startOf, expressions}
+use Rattle.notation.specs.Parser.{Parser, markIn, nameIn, atIn, isMark, endsSequence}
 use Rattle.notation.specs.Limits.{repeats}
 use Rattle.notation.specs.Expressions.{repeatMark, markerMark, Item, marker, expression, partBy, parsePart, propNamed, propBy, parseProp, parseProps, classBy, stdClassBy, setBy, parseSetExpression, literalOf, referenceOf, contentBy, inlineBy, stacked, repeatBy, parseRepeat, repeated, slots, sequenceOf, isEmptyArm, firstEmptyArm, choiceBy, choiceOf, parseBracedExpression, parseRuleNamed, parseInlineRuleExpression, parseSpecializeExpression, parseParenthesizedExpression, parseArguments, parseNamed, innerBy, parseExpressionInner, parseExpressionSuffix, itemBy, parseItem, parseExpressionSequence, parseArm, parseExpressionChoice, choiceAt}
-use Rattle.laws.specs.Starts.{onTokens, onAnswer, onIdentifier, onPart, onProp, onMarker, onExpression, onExpressions, onSlots, onRule, onReference}
-use Rattle.laws.proofs.Lists.{onOption, map-append}
+use Rattle.laws.specs.Starts.{onIdentifier, onPart, onProp, onMarker, onExpression, onExpressions, onSlots, onRule, onReference}
+use Rattle.laws.proofs.Lists.{onOption}
 use Rattle.laws.proofs.Alike.{Alike, same, bind-alike, pure-alike, refuse-alike, choose-alike, here-alike, kind-alike, refuseHere-alike, next-alike, eat-alike, expect-alike, parseIdentifier-alike, loop-alike, until-alike}
 
 module _ {S T : Type 0} (f : S → T) where
@@ -154,13 +154,9 @@ module _ {S T : Type 0} (f : S → T) where
   repeatBy-alike (some r) true = refuseHere-alike _
   repeatBy-alike (some r) false = bind-alike _ next-alike λ u. pure-alike _ refl
 
-  map-same : {A : Type 0} (xs : List A) → map same xs ≡ xs
-  map-same [] = refl
-  map-same (x ∷ xs) = ap (λ l. x ∷ l) (map-same xs)
-
   parseRepeat-alike : (s : ℕ) (before : List RepeatKind) → Alike f (onOption same) (parseRepeat s before) (parseRepeat s (map same before))
   unfolding parseRepeat
-  parseRepeat-alike s before = rw (map-same before) (bind-alike _ kind-alike λ k. repeatBy-alike (repeatMark (markIn k)) (eqb (s + length before) repeats))
+  parseRepeat-alike s before = rw (map-id before) (bind-alike _ kind-alike λ k. repeatBy-alike (repeatMark (markIn k)) (eqb (s + length before) repeats))
 
   repeated-on : (p : S) (rs : List RepeatKind) (e : Expression S) → repeated (f p) rs (onExpression f e) ≡ onExpression f (repeated p rs e)
   unfolding repeated onExpression
@@ -298,7 +294,7 @@ module _ {S T : Type 0} (f : S → T) where
         bind-alike _ here-alike λ p.
         bind-alike _ parseInner-alike λ e.
         bind-alike {g = map same} _ (rw (stacked-on e) (loop-alike same _ λ before. parseRepeat-alike (stacked e) before)) λ rs.
-        rw (map-same rs) (pure-alike _ (repeated-on p rs e))
+        rw (map-id rs) (pure-alike _ (repeated-on p rs e))
 
     itemBy-alike : (p : S) (k : Option Kind) (m : Option ConflictMarkerKind) → Alike f (onOption onItem) (itemBy below p k m) (itemBy below′ (f p) k m)
     unfolding itemBy onItem

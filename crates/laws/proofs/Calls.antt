@@ -1,15 +1,15 @@
 -- Demand 3 for the call `normal`: what it wrote, it writes again.
 -- Assumes nothing.
-use Prim.Native.Nat.{ℕ, zero, suc, _+_, _≤_, _<_}
-use native.Mathlib.Omega.{arith}
+use Prim.Native.Nat.{ℕ}
 use mathlib.Core.Path.{_≡_, refl, ap, sym, _∙_}
 use mathlib.Core.Bool.{Bool, true, false, _||_}
-use mathlib.Core.List.{List, [], _∷_, _++_}
+use mathlib.Core.List.{List}
 use lib.Dec.{ltb}
 use lib.ListN.{length, take, drop}
 use lib.Seq.{take-append-seam}
 use borrow.Author.Tests.{ltb-false}
 use Rattle.basics.specs.Basics.{if_then_else_}
+use Rattle.basics.proofs.Tests.{impossible, both-false}
 use Rattle.error.specs.Causes.{recordsFull, textsFull, outputFull}
 use Rattle.error.specs.Lines.{Refusal, lineFeeds, lineStart, lineAt, columnAt, refusalAt}
 use Rattle.tree.specs.Syntax.{GrammarDeclaration}
@@ -18,7 +18,6 @@ use Rattle.spelling.specs.NormalText.{normalText}
 use Rattle.grammar.specs.Reading.{Reading, tree, stopped, reading, longest}
 use Rattle.grammar.specs.Calls.{over, roomFor, NormalAnswer, written, NormalOutcome, writeBy, normalBy, normal}
 use Rattle.laws.specs.Demand3.{Accepted, NormalOfItsOutput}
-use Rattle.laws.proofs.Lists.{clash}
 use Rattle.laws.proofs.Demand3.{normal-texts-are-accepted, agreeing-trees-take-the-same-room}
 
 -- ------------------------------------------------------------------ the call, seen through its parts
@@ -73,7 +72,7 @@ module _ (records texts output : List ℕ) where
   by-stopped text n p = refl
 
   not-written : {A : Type 0} {n : ℕ} (r : Refusal) → NormalAnswer.refused r ≡ written n → A
-  not-written r e = let z : _≡_ {A = ℕ} 0 1 = cc in absurd (omega arith)
+  not-written r e = impossible (cc)
 
   pub record Wrote (text : List ℕ) (n : ℕ) : Type 0 where
     pub grammar : GrammarDeclaration ℕ
@@ -113,10 +112,6 @@ module _ (records texts output : List ℕ) where
 
 -- ------------------------------------------------------------------ and so again
 
-pub or-left : (a b : Bool) → (a || b) ≡ false → a ≡ false
-or-left true b e = e
-or-left false b e = refl
-
 module _ (text records texts output : List ℕ) (g : GrammarDeclaration ℕ) (reads : reading text ≡ tree g) (room : Room records texts output g) where
   first : normal text records texts output ≡ done records texts output g
   first = wrote records texts output text g reads room
@@ -127,7 +122,7 @@ module _ (text records texts output : List ℕ) (g : GrammarDeclaration ℕ) (re
   accepted : Accepted g
   accepted =
       normal-texts-are-accepted text g reads
-      (ltb-false longest (length (normalText g)) (or-left (ltb longest (length (normalText g))) (ltb (length output) (length (normalText g))) (room .room)))
+      (ltb-false longest (length (normalText g)) (both-false (ltb longest (length (normalText g))) (ltb (length output) (length (normalText g))) (room .room) .0))
 
   again-room : (a : Accepted g) → Room records texts output (a .again)
   again-room a =

@@ -1,13 +1,14 @@
 -- A good grammar, stored, is decoded back.
 -- Assumes nothing.
 use Prim.Native.Nat.{ℕ}
-use borrow.Author.Tests.{ne-eqb}
+use borrow.Author.Tests.{ne-eqb, not-true}
 use mathlib.Core.Path.{_≡_, refl, ap, sym, _∙_}
-use mathlib.Core.Bool.{Bool, true, false, _||_, not}
-use mathlib.Core.List.{List, [], _∷_, _++_, map}
+use mathlib.Core.Bool.{true, false, _||_, not}
+use mathlib.Core.List.{List, [], _∷_, _++_, map, append-nil}
 use mathlib.Core.Option.{Option, none, some}
 use lib.Dec.{eqb}
 use Rattle.basics.specs.Basics.{if_then_else_, firstOf}
+use Rattle.basics.proofs.Tests.{clash}
 use Rattle.characters.proofs.Chars.{Scalars, codes-all}
 use Rattle.tree.specs.Records.{Branch, branch, Branches, []ᴮ, _∷ᴮ_}
 use Rattle.tree.specs.OneTree.{kindOf}
@@ -16,13 +17,13 @@ use Rattle.tree.specs.Syntax.{Identifier, Prop, RuleDeclaration, TokenReference
 use Rattle.notation.specs.Limits.{levels}
 use Rattle.notation.specs.Expressions.{referenceOf}
 use Rattle.laws.specs.Starts.{onIdentifier, onProp, onExpression, onRule, onReference, onTokenPrec, onTokenConflict, onLiteral, onNamedNode, onFallback, onPrecItem, onExternalProp, onDeclaration, onGrammar}
-use Rattle.laws.proofs.Lists.{clash, append-none}
 use Rattle.laws.proofs.Fine.{U}
-use Rattle.laws.proofs.Readable.{Every, every-none, every-more, GoodName, GoodProp}
+use Rattle.laws.proofs.Readable.{GoodName, GoodProp}
 use Rattle.laws.proofs.MeetsExpressions.{Found, found-none, found-some, GoodRule}
 use Rattle.laws.proofs.Good.{Outer, GoodReference, GoodTokenPrec, GoodTokenConflict, GoodLiteral, GoodNode, GoodPrecItem, GoodSource, GoodExternalProp, GoodDeclaration, good-top, good-rule, good-tokens, good-local, good-context, good-external, good-specializer, good-prop-source, good-precedences, good-skip, good-scoped, GoodGrammar}
 use Rattle.laws.proofs.Decode.{pick, propIn, expressionIn, expressionsIn, nameIn, sourceIn, ruleIn, referenceIn, tokenPrecIn, tokenConflictIn, literalIn, nodeIn, precItemIn, declarationIn, externalPropIn, declarationsIn, grammarIn}
 use Rattle.laws.proofs.DecodeBackExpressions.{zeroed, pick-same, pick-other, expressions-skip, flag-back, prop-back, Z, expression-first, pick-expression, specialize-back, item-back, expression-back}
+use Rattle.laws.proofs.Every.{Every, every-none, every-more}
 
 -- ------------------------------------------------------------------ rules and members of blocks
 
@@ -48,8 +49,8 @@ rule-back k r g =
       expressions-skip (nameBranch 4) (λ x. refl) xs (expressionBranch e ∷ᴮ []ᴮ),
       expression-first e []ᴮ,
       expression-back levels (r .expression) (g .body),
-      append-none (r .props),
-      append-none (r .params),
+      append-nil (r .props),
+      append-nil (r .params),
     )
 
 referred-zeroed : (r : TokenReference U) → referred (onReference zeroed r) ≡ Z (referred r)
@@ -95,7 +96,7 @@ conflict-back x g =
 
 props-only : {ps : List (Prop U)} → Every GoodProp ps → pick 5 propIn (each propBranch (map (onProp zeroed) ps) []ᴮ) ≡ ps
 unfolding pick
-props-only {ps} g = pick-same (onProp zeroed) propBranch 5 propIn (λ x. refl) prop-back g []ᴮ ∙ append-none ps
+props-only {ps} g = pick-same (onProp zeroed) propBranch 5 propIn (λ x. refl) prop-back g []ᴮ ∙ append-nil ps
 
 literal-text : (x : LiteralDeclaration U) → GoodLiteral x → literalIn (literalBranch (onLiteral zeroed x)) ≡ x
 unfolding literalIn
@@ -160,21 +161,21 @@ module _ (x : TokenDeclaration U) (a : Every GoodTokenPrec (x .precedences)) (b 
         pick-other (ruleBranch 3) 9 tokenPrecIn (λ y. refl) rs from-literals,
         pick-other literalBranch 9 tokenPrecIn (λ y. refl) ls []ᴮ,
         pick-none 9 tokenPrecIn,
-        append-none (x .precedences),
+        append-nil (x .precedences),
       )
 
   token-conflicts : pick 10 tokenConflictIn (each tokenPrecBranch ps from-conflicts) ≡ x .conflicts
   token-conflicts =
       pick-other tokenPrecBranch 10 tokenConflictIn (λ y. refl) ps from-conflicts
       ∙ pick-same (onTokenConflict zeroed) tokenConflictBranch 10 tokenConflictIn (λ y. refl) conflict-back b from-rules
-      ∙ rw (pick-other (ruleBranch 3) 10 tokenConflictIn (λ y. refl) rs from-literals, pick-other literalBranch 10 tokenConflictIn (λ y. refl) ls []ᴮ, pick-none 10 tokenConflictIn, append-none (x .conflicts))
+      ∙ rw (pick-other (ruleBranch 3) 10 tokenConflictIn (λ y. refl) rs from-literals, pick-other literalBranch 10 tokenConflictIn (λ y. refl) ls []ᴮ, pick-none 10 tokenConflictIn, append-nil (x .conflicts))
 
   token-rules : pick 3 ruleIn (each tokenPrecBranch ps from-conflicts) ≡ x .rules
   token-rules =
       pick-other tokenPrecBranch 3 ruleIn (λ y. refl) ps from-conflicts
       ∙ pick-other tokenConflictBranch 3 ruleIn (λ y. refl) cs from-rules
       ∙ pick-same (onRule zeroed) (ruleBranch 3) 3 ruleIn (λ y. refl) (rule-back 3) c from-literals
-      ∙ rw (pick-other literalBranch 3 ruleIn (λ y. refl) ls []ᴮ, pick-none 3 ruleIn, append-none (x .rules))
+      ∙ rw (pick-other literalBranch 3 ruleIn (λ y. refl) ls []ᴮ, pick-none 3 ruleIn, append-nil (x .rules))
 
   token-literals : pick 11 literalIn (each tokenPrecBranch ps from-conflicts) ≡ x .literals
   token-literals =
@@ -182,7 +183,7 @@ module _ (x : TokenDeclaration U) (a : Every GoodTokenPrec (x .precedences)) (b 
       ∙ pick-other tokenConflictBranch 11 literalIn (λ y. refl) cs from-rules
       ∙ pick-other (ruleBranch 3) 11 literalIn (λ y. refl) rs from-literals
       ∙ pick-same (onLiteral zeroed) literalBranch 11 literalIn (λ y. refl) literal-text d []ᴮ
-      ∙ rw (pick-none 11 literalIn, append-none (x .literals))
+      ∙ rw (pick-none 11 literalIn, append-nil (x .literals))
 
   tokens-back : declarationIn (declarationBranch (onDeclaration zeroed (tokens x))) ≡ tokens x
   unfolding declarationIn declarationBranch onDeclaration
@@ -209,13 +210,13 @@ module _ (x : LocalTokenDeclaration U) (a : Every GoodTokenPrec (x .precedences)
   local-precs : pick 9 tokenPrecIn (each tokenPrecBranch local-ps from-local) ≡ x .precedences
   local-precs =
       pick-same (onTokenPrec zeroed) tokenPrecBranch 9 tokenPrecIn (λ y. refl) precedence-back a from-local
-      ∙ rw (pick-other (ruleBranch 3) 9 tokenPrecIn (λ y. refl) local-rs from-fallback, fallback-other 9 tokenPrecIn refl (x .fallback), append-none (x .precedences))
+      ∙ rw (pick-other (ruleBranch 3) 9 tokenPrecIn (λ y. refl) local-rs from-fallback, fallback-other 9 tokenPrecIn refl (x .fallback), append-nil (x .precedences))
 
   local-rules : pick 3 ruleIn (each tokenPrecBranch local-ps from-local) ≡ x .rules
   local-rules =
       pick-other tokenPrecBranch 3 ruleIn (λ y. refl) local-ps from-local
       ∙ pick-same (onRule zeroed) (ruleBranch 3) 3 ruleIn (λ y. refl) (rule-back 3) b from-fallback
-      ∙ rw (fallback-other 3 ruleIn refl (x .fallback), append-none (x .rules))
+      ∙ rw (fallback-other 3 ruleIn refl (x .fallback), append-nil (x .rules))
 
   local-fallback : pick 13 nodeIn (each tokenPrecBranch local-ps from-local) ≡ pick 13 nodeIn from-fallback
   local-fallback = pick-other tokenPrecBranch 13 nodeIn (λ y. refl) local-ps from-local ∙ pick-other (ruleBranch 3) 13 nodeIn (λ y. refl) local-rs from-fallback
@@ -231,18 +232,15 @@ module _ (xs : List (NamedNode U)) (ns : List (Identifier U)) (a : Every GoodNod
   abbrev pub from-names : Branches
   from-names = each (nameBranch 17) (map (onIdentifier zeroed) ns) []ᴮ
 
-  external-sources : pick 15 sourceIn (each namedNodeBranch zs from-names) ≡ []
-  external-sources = pick-other namedNodeBranch 15 sourceIn (λ y. refl) zs from-names ∙ pick-other (nameBranch 17) 15 sourceIn (λ y. refl) (map (onIdentifier zeroed) ns) []ᴮ ∙ pick-none 15 sourceIn
-
   external-nodes : pick 13 nodeIn (each namedNodeBranch zs from-names) ≡ xs
   external-nodes =
       pick-same (onNamedNode zeroed) namedNodeBranch 13 nodeIn (λ y. refl) node-back a from-names
-      ∙ rw (pick-other (nameBranch 17) 13 nodeIn (λ y. refl) (map (onIdentifier zeroed) ns) []ᴮ, pick-none 13 nodeIn, append-none xs)
+      ∙ rw (pick-other (nameBranch 17) 13 nodeIn (λ y. refl) (map (onIdentifier zeroed) ns) []ᴮ, pick-none 13 nodeIn, append-nil xs)
 
   external-names : pick 17 nameIn (each namedNodeBranch zs from-names) ≡ ns
   external-names =
       pick-other namedNodeBranch 17 nameIn (λ y. refl) zs from-names
-      ∙ pick-same (onIdentifier zeroed) (nameBranch 17) 17 nameIn (λ y. refl) (identifier-back 17) b []ᴮ ∙ rw (pick-none 17 nameIn, append-none ns)
+      ∙ pick-same (onIdentifier zeroed) (nameBranch 17) 17 nameIn (λ y. refl) (identifier-back 17) b []ᴮ ∙ rw (pick-none 17 nameIn, append-nil ns)
 
 -- what is not of a kind is passed over
 pick-past : {A : Type 0} (k : ℕ) (f : Branch → A) (b : Branch) (bs : Branches) → eqb (kindOf b) k ≡ false → pick k f (b ∷ᴮ bs) ≡ pick k f bs
@@ -267,7 +265,7 @@ unfolding declarationIn declarationBranch onDeclaration
 specializer-back x r g a =
     let ns = each namedNodeBranch (map (onNamedNode zeroed) (x .tokens)) []ᴮ in
     let bs = sourceBranch (x .source) ∷ᴮ ns in
-    let nodes : pick 13 nodeIn ns ≡ x .tokens = pick-same (onNamedNode zeroed) namedNodeBranch 13 nodeIn (λ y. refl) node-back a []ᴮ ∙ rw (pick-none 13 nodeIn, append-none (x .tokens)) in
+    let nodes : pick 13 nodeIn ns ≡ x .tokens = pick-same (onNamedNode zeroed) namedNodeBranch 13 nodeIn (λ y. refl) node-back a []ᴮ ∙ rw (pick-none 13 nodeIn, append-nil (x .tokens)) in
     rw (
       codes-all (g .word .scalars),
       specialize-back (x .kind),
@@ -283,7 +281,7 @@ specializer-back x r g a =
 precedences-back : (x : PrecDeclaration U) → Every GoodPrecItem (x .items) → declarationIn (declarationBranch (onDeclaration zeroed (precedences x))) ≡ precedences x
 unfolding declarationIn declarationBranch onDeclaration
 precedences-back x g =
-    let items : pick 21 precItemIn (each precItemBranch (map (onPrecItem zeroed) (x .items)) []ᴮ) ≡ x .items = pick-same (onPrecItem zeroed) precItemBranch 21 precItemIn (λ y. refl) prec-item-back g []ᴮ ∙ rw (pick-none 21 precItemIn, append-none (x .items)) in
+    let items : pick 21 precItemIn (each precItemBranch (map (onPrecItem zeroed) (x .items)) []ᴮ) ≡ x .items = pick-same (onPrecItem zeroed) precItemBranch 21 precItemIn (λ y. refl) prec-item-back g []ᴮ ∙ rw (pick-none 21 precItemIn, append-nil (x .items)) in
     rw items
 
 scoped-back : (x : ScopedSkipDeclaration U) → Outer (x .expression) → Every (GoodRule Outer) (x .topRules) → Every (GoodRule Outer) (x .rules) → declarationIn (declarationBranch (onDeclaration zeroed (scopedSkip x))) ≡ scopedSkip x
@@ -298,12 +296,12 @@ scoped-back x r a b =
       pick-same (onRule zeroed) (ruleBranch 2) 2 ruleIn (λ y. refl) (rule-back 2) a more,
       pick-other (ruleBranch 3) 2 ruleIn (λ y. refl) rs []ᴮ,
       pick-none 2 ruleIn,
-      append-none (x .topRules),
+      append-nil (x .topRules),
       pick-expression 3 ruleIn refl (Z (x .expression)) bs,
       pick-other (ruleBranch 2) 3 ruleIn (λ y. refl) ts more,
       pick-same (onRule zeroed) (ruleBranch 3) 3 ruleIn (λ y. refl) (rule-back 3) b []ᴮ,
       pick-none 3 ruleIn,
-      append-none (x .rules),
+      append-nil (x .rules),
       expression-first (Z (x .expression)) bs,
       expression-back levels (x .expression) r,
     )
@@ -347,11 +345,7 @@ declaration-kind (mainSkip e) = refl
 declaration-kind (scopedSkip x) = refl
 
 declaration-no : (k : ℕ) → (eqb k 24 || eqb k 25) ≡ true → (d : Declaration ℕ) → eqb (kindOf (declarationBranch d)) k ≡ false
-declaration-no k h d = ne-eqb (kindOf (declarationBranch d)) k (λ q. clash (eqb k 24 || eqb k 25) h (not-false (eqb k 24 || eqb k 25) (ap (λ n. not (eqb n 24 || eqb n 25)) (sym q) ∙ declaration-kind d)))
-  where
-    not-false : (b : Bool) → not b ≡ true → b ≡ false
-    not-false true e = clash false e refl
-    not-false false e = refl
+declaration-no k h d = ne-eqb (kindOf (declarationBranch d)) k (λ q. clash (eqb k 24 || eqb k 25) h (not-true (eqb k 24 || eqb k 25) (ap (λ n. not (eqb n 24 || eqb n 25)) (sym q) ∙ declaration-kind d)))
 
 declarations-in : {ds : List (Declaration U)} → Every GoodDeclaration ds → (bs : Branches) → declarationsIn (each declarationBranch (map (onDeclaration zeroed) ds) bs) ≡ ds ++ declarationsIn bs
 unfolding declarationsIn each
@@ -383,15 +377,15 @@ grammar-back g h =
       declarations-in (h .declarations) names,
       declarations-skip (nameBranch 24) (λ n. refl) ns props,
       declarations-skip externalPropBranch (λ n. refl) xs []ᴮ,
-      append-none (g .declarations),
+      append-nil (g .declarations),
       pick-other declarationBranch 24 nameIn (declaration-no 24 refl) ds names,
       pick-same (onIdentifier zeroed) (nameBranch 24) 24 nameIn (λ n. refl) (identifier-back 24) (h .dialects) props,
       pick-other externalPropBranch 24 nameIn (λ n. refl) xs []ᴮ,
       pick-none 24 nameIn,
-      append-none (g .dialects),
+      append-nil (g .dialects),
       pick-other declarationBranch 25 externalPropIn (declaration-no 25 refl) ds names,
       pick-other (nameBranch 24) 25 externalPropIn (λ n. refl) ns props,
       pick-same (onExternalProp zeroed) externalPropBranch 25 externalPropIn (λ n. refl) external-prop-back (h .externals) []ᴮ,
       pick-none 25 externalPropIn,
-      append-none (g .externalProps),
+      append-nil (g .externalProps),
     )

@@ -4,20 +4,23 @@ use Prim.Native.Nat.{ℕ, zero, suc}
 use borrow.Author.Tests.{ne-eqb}
 use mathlib.Core.Path.{_≡_, refl, ap, sym, _∙_}
 use mathlib.Core.Bool.{Bool, true, false}
-use mathlib.Core.List.{List, [], _∷_, _++_, map}
+use mathlib.Core.List.{List, [], _∷_, _++_, map, append-nil}
 use lib.Dec.{eqb}
 use Rattle.basics.specs.Basics.{if_then_else_}
+use Rattle.basics.proofs.Tests.{clash}
 use Rattle.characters.specs.Spans.{Span}
 use Rattle.characters.proofs.Chars.{Scalars, codes-all}
 use Rattle.tree.specs.Records.{Branch, Branches, []ᴮ, _∷ᴮ_}
 use Rattle.tree.specs.OneTree.{isExpression, kindOf}
 use Rattle.tree.specs.Stored.{each, flag, partBranch, propBranch, markerNumber, markerBranch, spanBranch, specializeValue, expressionBranch, expressionBranches, slotBranches}
 use Rattle.tree.specs.Syntax.{PropPart, value, Prop, ConflictMarker, ConflictMarkerKind, ambiguity, precedence, SpecializeKind, extend, specialize, RepeatKind, optional, zeroOrMore, oneOrMore, CharClass, asciiLetter, asciiLowercase, asciiUppercase, digit, whitespace, eof, Expression, special, inline, choice, sequence, empty, repeat, set, any, class, Expressions, Slots, expressions}
+use Rattle.tree.proofs.ExpressionsFit.{expression-kind}
 use Rattle.laws.specs.Starts.{onPart, onProp, onMarker, onExpression, onExpressions, onSlots}
-use Rattle.laws.proofs.Lists.{clash, append-none, append-one}
+use Rattle.laws.proofs.Lists.{append-one}
 use Rattle.laws.proofs.Fine.{U, Word}
-use Rattle.laws.proofs.Readable.{Every, every-none, every-more, GoodPart, good-value, good-braced, GoodProp, GoodMarker, Grade, Each, each-none, each-more, Item, item-name, item-special, item-inline, item-choice, item-sequence, item-empty, item-repeat, item-literal, item-set, item-any, item-class, InSlots, in-last, in-slot, Arm, arm-sequence, arm-item, Arms, arms-none, arms-more, Level, level-choice, level-arm, Readable}
+use Rattle.laws.proofs.Readable.{GoodPart, good-value, good-braced, GoodProp, GoodMarker, Grade, Each, each-none, each-more, Item, item-name, item-special, item-inline, item-choice, item-sequence, item-empty, item-repeat, item-literal, item-set, item-any, item-class, InSlots, in-last, in-slot, Arm, arm-sequence, arm-item, Arms, arms-none, arms-more, Level, level-choice, level-arm, Readable}
 use Rattle.laws.proofs.Decode.{pick, partIn, allIn, propIn, spanIn, markerIn, expressionBy, expressionIn, expressionsIn, slotsIn}
+use Rattle.laws.proofs.Every.{Every, every-none, every-more}
 
 abbrev pub zeroed : U → ℕ
 zeroed u = 0
@@ -77,10 +80,6 @@ marker-plain m = go (m .kind)
     go ambiguity = refl
     go precedence = refl
 
-span-back : (p : ℕ) (s : Span) → spanIn (spanBranch p s) ≡ s
-unfolding spanIn
-span-back p s = refl
-
 spans-back : (p : ℕ) (ss : List Span) → allIn spanIn (each (spanBranch p) ss []ᴮ) ≡ ss
 unfolding allIn each spanIn
 spans-back p [] = refl
@@ -90,20 +89,6 @@ spans-back p (s ∷ ss) = ap (λ l. s ∷ l) (spans-back p ss)
 
 abbrev pub Z : Expression U → Expression ℕ
 Z e = onExpression zeroed e
-
-expression-kind : (e : Expression ℕ) → isExpression (kindOf (expressionBranch e)) ≡ true
-unfolding expressionBranch
-expression-kind (Expression.name p t es) = refl
-expression-kind (special p k ps e f) = refl
-expression-kind (inline p t ps e) = refl
-expression-kind (choice p es) = refl
-expression-kind (sequence p s) = refl
-expression-kind (empty p) = refl
-expression-kind (repeat p k e) = refl
-expression-kind (Expression.literal p t) = refl
-expression-kind (set p i ss) = refl
-expression-kind (any p) = refl
-expression-kind (class p c) = refl
 
 -- an expression that stands first
 pub expression-first : (e : Expression ℕ) (bs : Branches) → expressionsIn (expressionBranch e ∷ᴮ bs) ≡ expressionIn (expressionBranch e) ∷ expressionsIn bs
@@ -126,7 +111,7 @@ module _ (R : Grade) (back : (e : Expression U) → R e → expressionIn (expres
 
   -- props, and then one expression, or two
   props-one : (ps : List (Prop U)) → Every GoodProp ps → (e : Expression ℕ) (bs : Branches) → pick 5 propIn bs ≡ [] → pick 5 propIn (each propBranch (map (onProp zeroed) ps) (expressionBranch e ∷ᴮ bs)) ≡ ps
-  props-one ps g e bs h = pick-same (onProp zeroed) propBranch 5 propIn (λ x. refl) prop-back g (expressionBranch e ∷ᴮ bs) ∙ rw (pick-expression 5 propIn refl e bs, h, append-none ps)
+  props-one ps g e bs h = pick-same (onProp zeroed) propBranch 5 propIn (λ x. refl) prop-back g (expressionBranch e ∷ᴮ bs) ∙ rw (pick-expression 5 propIn refl e bs, h, append-nil ps)
 
   props-then : (ps : List (Prop U)) (e : Expression ℕ) (bs : Branches) → expressionsIn (each propBranch (map (onProp zeroed) ps) (expressionBranch e ∷ᴮ bs)) ≡ expressionIn (expressionBranch e) ∷ expressionsIn bs
   props-then ps e bs = expressions-skip propBranch (λ x. refl) (map (onProp zeroed) ps) (expressionBranch e ∷ᴮ bs) ∙ expression-first e bs
@@ -191,7 +176,7 @@ module _ (R : Grade) (back : (e : Expression U) → R e → expressionIn (expres
 
   markers-in : (ms : List (ConflictMarker U)) {ns : List (ConflictMarker U)} → Every GoodMarker ns → (bs : Branches) → slotsIn ms (each markerBranch (map (onMarker zeroed) ns) bs) ≡ slotsIn (ms ++ ns) bs
   unfolding expressionIn each
-  markers-in ms every-none bs = rw (append-none ms)
+  markers-in ms every-none bs = rw (append-nil ms)
   markers-in ms (every-more {x = n} {xs = ns} g q) bs = rw (marker-plain (onMarker zeroed n), marker-back n g, markers-in (ms ++ n ∷ []) q bs, append-one ms n ns)
 
   slots-back : {s : Slots U} → InSlots R s → slotsIn [] (slotBranches (onSlots zeroed s)) ≡ s

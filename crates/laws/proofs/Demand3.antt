@@ -1,36 +1,36 @@
 -- Demand 3, proved.
 -- Assumes nothing.
-use Prim.Native.Nat.{ℕ, zero, suc, _+_, _≤_}
+use Prim.Native.Nat.{_≤_}
 use native.Mathlib.Omega.{arith}
 use mathlib.Core.Path.{_≡_, refl, ap, sym, _∙_}
-use mathlib.Core.Bool.{Bool, true, false, _&&_}
-use mathlib.Core.List.{List, [], _∷_, _++_}
+use mathlib.Core.Bool.{true}
+use mathlib.Core.List.{List, [], _∷_}
 use lib.ListN.{length}
 use Rattle.basics.specs.Basics.{same}
-use Rattle.basics.proofs.Tests.{both-true}
+use Rattle.basics.proofs.Tests.{both-true, clash}
 use Rattle.characters.specs.Utf8.{codes, encodeAll}
-use Rattle.characters.proofs.Chars.{Scalars, codes-all}
-use Rattle.lexer.specs.Tokens.{Kind, Tokens, tokens}
+use Rattle.characters.proofs.Chars.{codes-all}
+use Rattle.lexer.specs.Tokens.{tokens}
 use Rattle.basics.proofs.Same.{same-true}
 use Rattle.tree.specs.Records.{Record, words, records, texts}
 use Rattle.tree.specs.Syntax.{GrammarDeclaration}
-use Rattle.tree.specs.Stored.{grammarBranch, grammarRecords, grammarTexts, grammarWords}
-use Rattle.tree.specs.Equality.{agreeing, allAgreeing, agree}
-use Rattle.notation.specs.Parser.{Answer, read}
+use Rattle.tree.specs.Stored.{grammarBranch}
+use Rattle.tree.specs.Equality.{agreeing, allAgreeing}
+use Rattle.tree.proofs.Standing.{words-of, texts-of}
+use Rattle.notation.specs.Parser.{read}
 use Rattle.notation.specs.Declarations.{parse}
-use Rattle.spelling.specs.NormalText.{each, lines, linesText, normalText}
-use Rattle.grammar.specs.Reading.{tree, reading, answered, longest}
-use Rattle.laws.specs.Starts.{onTokens, onGrammar, bare}
-use Rattle.laws.specs.Demand3.{_reads_, Accepted, NormalTextsAreAccepted, EqualWhenTreesAgree, AgreeingTreesTakeTheSameRoom}
-use Rattle.laws.proofs.Lists.{clash}
+use Rattle.spelling.specs.NormalText.{lines, linesText, normalText}
+use Rattle.grammar.specs.Reading.{reading, longest}
+use Rattle.laws.specs.Starts.{onTokens, bare}
+use Rattle.laws.specs.Demand3.{NormalTextsAreAccepted, EqualWhenTreesAgree, AgreeingTreesTakeTheSameRoom}
 use Rattle.laws.proofs.Fine.{U}
 use Rattle.laws.proofs.Good.{GoodGrammar}
-use Rattle.laws.proofs.ReadBack.{laid, Reads}
-use Rattle.laws.proofs.ReadBackGrammar.{memberTokens, members, parse-reads}
+use Rattle.laws.proofs.ReadBack.{laid}
+use Rattle.laws.proofs.ReadBackGrammar.{parse-reads}
 use Rattle.laws.proofs.Agreement.{agree-records, agree-bare, bare-agree}
 use Rattle.laws.proofs.SameTokens.{textOf, text-same}
 use Rattle.laws.proofs.TextBack.{text-scalars, text-tokens}
-use Rattle.laws.proofs.Accepted.{reading-encoded, accepted-good, Given, given, read-tree}
+use Rattle.laws.proofs.Accepted.{reading-encoded, accepted-good, given, read-tree}
 
 -- ------------------------------------------------------------------ 1: normal texts are accepted
 
@@ -77,14 +77,6 @@ words-long [] [] e = refl
 words-long [] (q ∷ qs) e = clash _ e refl
 words-long (r ∷ rs) [] e = clash _ e refl
 words-long (r ∷ rs) (q ∷ qs) e = let t = words-long rs qs (both-true (agreeing r q) (allAgreeing rs qs) e .1) in omega arith
-
-words-of : (g : GrammarDeclaration ℕ) → grammarWords g ≡ words (records (grammarBranch g))
-unfolding grammarWords grammarRecords grammarBranch words records
-words-of g = refl
-
-texts-of : (g : GrammarDeclaration ℕ) → grammarTexts g ≡ texts (grammarBranch g)
-unfolding grammarTexts grammarBranch texts
-texts-of g = refl
 
 pub agreeing-trees-take-the-same-room : AgreeingTreesTakeTheSameRoom
 agreeing-trees-take-the-same-room g h e =

@@ -1,10 +1,10 @@
 -- What the texts in tokens and trees are made of: words, and codes that UTF-8 writes.
 -- Assumes nothing.
 use Prim.Native.Nat.{ℕ}
-use mathlib.Core.Path.{_≡_, refl}
-use mathlib.Core.Bool.{Bool, true, false}
-use mathlib.Core.List.{List, [], _∷_}
-use mathlib.Core.Option.{Option, none, some}
+use mathlib.Core.Path.{_≡_}
+use mathlib.Core.Bool.{Bool}
+use mathlib.Core.List.{List, []}
+use mathlib.Core.Option.{none, some}
 use Rattle.characters.specs.Spans.{Span}
 use Rattle.characters.proofs.Chars.{Scalars}
 use Rattle.lexer.specs.Tokens.{Kind, Tokens, token, eof, bad}

@@ -1,33 +1,29 @@
 -- The tokens of a text are fine: their texts are words, or of codes that UTF-8 writes.
 -- Assumes nothing.
-use Prim.Native.Nat.{ℕ, zero, suc, _+_, _-_, _<_, _≤_}
+use Prim.Native.Nat.{ℕ, zero, suc, _+_, _-_}
 use native.Mathlib.Omega.{arith}
-use mathlib.Core.Path.{_≡_, refl, ap, sym, _∙_}
-use mathlib.Core.Bool.{Bool, true, false, _&&_, _||_, not}
-use mathlib.Core.List.{List, [], _∷_, _++_, map}
+use mathlib.Core.Path.{_≡_, refl}
+use mathlib.Core.Bool.{Bool, true, false, _&&_}
+use mathlib.Core.List.{List, [], _∷_, map}
 use mathlib.Core.Option.{Option, none, some}
-use lib.Dec.{eqb}
-use lib.ListN.{length, take, drop}
+use lib.ListN.{take, drop}
 use Rattle.basics.specs.Basics.{if_then_else_, letters, is, among, head}
-use Rattle.basics.proofs.Tests.{cases}
 use Rattle.characters.specs.declared.Char.{Char}
 use Rattle.characters.specs.declared.Char.the-variants.{Scalar, Ill}
 use Rattle.characters.specs.Classes.{isEcmascriptWhitespace, isLineTerminator, isPunctuation, isWord}
 use Rattle.characters.specs.Places.{run}
-use Rattle.characters.specs.Spans.{Span, _upto_}
 use Rattle.characters.specs.Utf8.{firstChar, onChar, codesFrom, codes, isScalar, width}
 use Rattle.characters.proofs.Chars.{Scalars, none-left, one-more}
 use Rattle.characters.proofs.Heads.{stands}
-use Rattle.lexer.specs.Tokens.{Kind, more, comment, body, never, Piece, blank, token, bad, commentOf, stringOf, setOf, atOf, solid, piece, Tokens, lay, tokensFrom, tokens}
+use Rattle.lexer.specs.Tokens.{Kind, comment, body, never, Piece, blank, token, bad, commentOf, stringOf, setOf, atOf, solid, piece, Tokens, lay, tokensFrom, tokens}
 use Rattle.lexer.specs.Tokens as T
-use Rattle.lexer.specs.Escapes.{Escape, escape, Atom, escapedBy, atomsFrom, atoms, decodeString}
-use Rattle.lexer.specs.Sets.{dash, rangeEnd, spanBy, written, spans, fault, sorted}
+use Rattle.lexer.specs.Escapes.{escape, Atom, escapedBy, atomsFrom, decodeString}
 use Rattle.lexer.proofs.Back.{Words, no-more}
 use Rattle.lexer.proofs.Back as B
-use Rattle.lexer.proofs.Escaped.{Short, escape-short}
-use Rattle.laws.proofs.Lists.{clash, not-empty}
+use Rattle.lexer.proofs.Escaped.{escape-short}
+use Rattle.laws.proofs.Lists.{not-empty}
 use Rattle.laws.proofs.SpansFine.{ScalarAtoms, no-atoms, more-atoms, read-back}
-use Rattle.laws.proofs.Fine.{Word, ReadBack, FineKind, fine-name, fine-at, fine-string, fine-set, fine-mark, Fine, fine-token, fine-eof, fine-bad}
+use Rattle.laws.proofs.Fine.{FineKind, fine-name, fine-at, fine-string, fine-set, fine-mark, Fine, fine-token, fine-eof, fine-bad}
 
 -- ------------------------------------------------------------------ codes of bytes
 

@@ -9,12 +9,12 @@ use mathlib.Core.List.{List, [], _∷_}
 use mathlib.Core.Option.{Option, none}
 use lib.ListN.{length}
 use Rattle.basics.specs.Basics.{firstOf}
+use Rattle.basics.proofs.Tests.{clash}
 use Rattle.lexer.specs.Tokens.{Kind}
 use Rattle.tree.specs.Syntax.{ConflictMarker, ConflictMarkerKind, ambiguity, precedence, RepeatKind, optional, zeroOrMore, oneOrMore, Expression, special, inline, choice, sequence, empty, repeat, set, any, class, Expressions, []ᴱ, _∷ᴱ_, Slots, last, slot}
 use Rattle.notation.specs.Parser.{kind, markIn, isMark, endsSequence}
 use Rattle.notation.specs.Expressions.{repeatMark, markerMark, isEmptyArm}
 use Rattle.spelling.specs.NormalText.{each, mark, markerSign, repeatSign, bracketIf, isChoice, isSequence, markerTokens, expressionTokens, argumentsTokens, moreArguments, armsTokens, moreArms, slotsTokens}
-use Rattle.laws.proofs.Lists.{clash}
 use Rattle.laws.proofs.Fine.{U}
 use Rattle.laws.proofs.Readable.{blank, Grade, Item, item-name, item-special, item-inline, item-choice, item-sequence, item-empty, item-repeat, item-literal, item-set, item-any, item-class, InSlots, in-last, in-slot, Arm, arm-sequence, arm-item, arms-more, Level, level-choice, level-arm}
 use Rattle.laws.proofs.ReadBackProps.{each-longer, props-longer}

@@ -2,18 +2,18 @@
 -- Assumes nothing.
 use Prim.Native.Nat.{ℕ, _≤_}
 use mathlib.Core.Path.{_≡_}
-use mathlib.Core.Bool.{Bool, true, false}
+use mathlib.Core.Bool.{Bool, true}
 use mathlib.Core.List.{List, [], _∷_}
-use mathlib.Core.Option.{Option, none, some}
 use lib.ListN.{length}
 use Rattle.basics.specs.Basics.{among}
-use Rattle.tree.specs.Syntax.{Identifier, Expression, RuleDeclaration, TokenReference, referred, TokenPrecDeclaration, TokenConflictDeclaration, LiteralDeclaration, NamedNode, TokenDeclaration, LocalTokenDeclaration, ContextDeclaration, ExternalTokenDeclaration, ExternalSpecializeDeclaration, ExternalPropSourceDeclaration, ExternalPropDeclaration, PrecItem, PrecDeclaration, ScopedSkipDeclaration, Declaration, topRule, rule, tokens, localTokens, context, externalTokens, externalSpecializer, externalPropSource, precedences, mainSkip, scopedSkip, GrammarDeclaration, ofKind, Grouped}
+use Rattle.tree.specs.Syntax.{Expression, RuleDeclaration, TokenReference, referred, TokenPrecDeclaration, TokenConflictDeclaration, LiteralDeclaration, NamedNode, TokenDeclaration, LocalTokenDeclaration, ContextDeclaration, ExternalTokenDeclaration, ExternalSpecializeDeclaration, ExternalPropSourceDeclaration, ExternalPropDeclaration, PrecItem, PrecDeclaration, ScopedSkipDeclaration, Declaration, topRule, rule, tokens, localTokens, context, externalTokens, externalSpecializer, externalPropSource, precedences, mainSkip, scopedSkip, GrammarDeclaration, ofKind, Grouped}
 use Rattle.notation.specs.Limits.{levels}
 use Rattle.notation.specs.Declarations.{hasTop}
 use Rattle.characters.proofs.Chars.{Scalars}
 use Rattle.laws.proofs.Fine.{U, Word}
-use Rattle.laws.proofs.Readable.{Every, GoodName, GoodProp, Item, Readable}
+use Rattle.laws.proofs.Readable.{GoodName, GoodProp, Item, Readable}
 use Rattle.laws.proofs.MeetsExpressions.{Found, GoodRule}
+use Rattle.laws.proofs.Every.{Every}
 
 -- an expression of level 1
 abbrev pub Outer : Expression U → Type 0

@@ -1,20 +1,20 @@
 -- Laws of groups: grouping twice is grouping once, and keeps what there is one of at most, and top rules.
 -- Assumes nothing.
-use Prim.Native.Nat.{ℕ, zero, suc, _+_, _≤_}
+use Prim.Native.Nat.{ℕ, _+_, _≤_}
 use native.Mathlib.Omega.{arith}
-use borrow.Author.Tests.{eqb-true, eqb-false, eq-eqb, ne-eqb}
+use borrow.Author.Tests.{eqb-true, eqb-false, eq-eqb, ne-eqb, not-true}
 use mathlib.Core.Path.{_≡_, refl, ap, sym, _∙_}
-use mathlib.Core.Bool.{Bool, true, false, _&&_, _||_, not}
-use mathlib.Core.List.{List, [], _∷_, _++_}
+use mathlib.Core.Bool.{Bool, true, false, _&&_, _||_, not, or-assoc}
+use mathlib.Core.List.{List, [], _∷_, _++_, append-nil}
 use lib.Dec.{eqb}
 use lib.ListN.{length, length-append}
 use Rattle.basics.specs.Basics.{among, isEmpty, every, keepIf, kept}
-use Rattle.tree.specs.Syntax.{RuleDeclaration, Declaration, declarationKind, ofKind, groups, grouped, hasKind}
+use Rattle.basics.proofs.Tests.{clash, both-true, both-false}
+use Rattle.tree.specs.Syntax.{Declaration, declarationKind, ofKind, groups, grouped, hasKind}
 use Rattle.notation.specs.Declarations.{isTop, hasTop}
-use Rattle.laws.proofs.Lists.{clash, not-true}
 use Rattle.laws.proofs.Fine.{U}
-use Rattle.laws.proofs.Readable.{Every, every-none, every-more}
 use Rattle.laws.proofs.Good.{isSingle, Singles}
+use Rattle.laws.proofs.Every.{Every, every-none, every-append, every-kept}
 
 -- no number stands twice in a list
 abbrev distinct : List ℕ → Bool
@@ -53,28 +53,17 @@ kept-same k (d ∷ ds) = go (eqb (declarationKind d) k) refl (kept-same k ds)
     go true e h = rw (e, h)
     go false e h = h
 
-or-false : (b c : Bool) → (b || c) ≡ false → (b ≡ false) × (c ≡ false)
-or-false true c h = clash true refl h
-or-false false c h = (refl, h)
-
-and-true : (b c : Bool) → (b && c) ≡ true → (b ≡ true) × (c ≡ true)
-and-true true c h = (refl, h)
-and-true false c h = clash false h refl
-
-not-false : (b : Bool) → not b ≡ true → b ≡ false
-not-false true h = clash false h refl
-not-false false h = refl
-
 groups-none : (k : ℕ) (ks : List ℕ) (ds : List (Declaration U)) → among ks k ≡ false → ofKind k (groups ks ds) ≡ []
 unfolding groups kept
 groups-none k [] ds h = refl
 groups-none k (l ∷ ks) ds h =
-    let o = or-false (eqb k l) (among ks k) h in
+    let o = both-false (eqb k l) (among ks k) h in
     kept-append (λ d. eqb (declarationKind d) k) (ofKind l ds) (groups ks ds) ∙ rw (kept-other k l (eqb-false k l (o .0)) ds, groups-none k ks ds (o .1))
 
-append-nil : {A : Type 0} (xs : List A) → xs ++ [] ≡ xs
-append-nil [] = refl
-append-nil (x ∷ xs) = ap (λ l. x ∷ l) (append-nil xs)
+-- of two tests of which one holds, and the first does not
+or-rest : (b c : Bool) → b ≡ false → (b || c) ≡ true → c ≡ true
+or-rest true c z m = clash true refl z
+or-rest false c z m = m
 
 groups-one : (k : ℕ) (ks : List ℕ) (ds : List (Declaration U)) → distinct ks ≡ true → among ks k ≡ true → ofKind k (groups ks ds) ≡ ofKind k ds
 unfolding groups
@@ -82,18 +71,14 @@ groups-one k [] ds d h = clash false h refl
 groups-one k (l ∷ ks) ds d h = kept-append (λ d. eqb (declarationKind d) k) (ofKind l ds) (groups ks ds) ∙ go (eqb k l) refl (λ m. groups-one k ks ds (two .1) m)
   where
     two : (not (among ks l) ≡ true) × (distinct ks ≡ true)
-    two = and-true (not (among ks l)) (distinct ks) d
+    two = both-true (not (among ks l)) (distinct ks) d
 
     go : (b : Bool) → eqb k l ≡ b → (among ks k ≡ true → ofKind k (groups ks ds) ≡ ofKind k ds) → ofKind k (ofKind l ds) ++ ofKind k (groups ks ds) ≡ ofKind k ds
     go true e f =
         let q = eqb-true k l e in
-        let n : among ks k ≡ false = ap (among ks) q ∙ not-false (among ks l) (two .0) in
+        let n : among ks k ≡ false = ap (among ks) q ∙ not-true (among ks l) (two .0) in
         rw (groups-none k ks ds n, append-nil (ofKind k (ofKind l ds)), ← q) (kept-same k ds)
-    go false e f = rw (kept-other k l (eqb-false k l e) ds) (f (rest (eqb k l) e h))
-      where
-        rest : (b : Bool) → b ≡ false → (b || among ks k) ≡ true → among ks k ≡ true
-        rest true z m = clash true refl z
-        rest false z m = m
+    go false e f = rw (kept-other k l (eqb-false k l e) ds) (f (or-rest (eqb k l) (among ks k) e h))
 
 -- ------------------------------------------------------------------ grouping twice is grouping once
 
@@ -101,7 +86,7 @@ groups-twice : (ls ks : List ℕ) (ds : List (Declaration U)) → distinct ks �
 unfolding groups every
 groups-twice [] ks ds d h = refl
 groups-twice (l ∷ ls) ks ds d h =
-    let two = and-true (among ks l) (every (among ks) ls) h in
+    let two = both-true (among ks l) (every (among ks) ls) h in
     rw (groups-one l ks ds d (two .0), groups-twice ls ks ds d (two .1))
 
 pub grouped-twice : (ds : List (Declaration U)) → grouped (grouped ds) ≡ grouped ds
@@ -129,7 +114,7 @@ grouped-singles ds s = record { few = λ k h. rw (groups-one k kinds ds refl (si
 has-none : (k : ℕ) (ds : List (Declaration U)) → hasKind k ds ≡ false → length (ofKind k ds) ≡ 0
 unfolding hasKind kept
 has-none k [] h = refl
-has-none k (d ∷ ds) h = let o = or-false (eqb (declarationKind d) k) (hasKind k ds) h in rw (o .0) (has-none k ds (o .1))
+has-none k (d ∷ ds) h = let o = both-false (eqb (declarationKind d) k) (hasKind k ds) h in rw (o .0) (has-none k ds (o .1))
 
 none-has : (k : ℕ) (ds : List (Declaration U)) → length (ofKind k ds) ≡ 0 → hasKind k ds ≡ false
 unfolding hasKind kept
@@ -171,19 +156,6 @@ singles-none = record { few = λ k h. omega arith }
 
 -- ------------------------------------------------------------------ what holds of each
 
-every-append : {A : Type 0} {G : A → Type 0} {xs ys : List A} → Every G xs → Every G ys → Every G (xs ++ ys)
-every-append every-none h = h
-every-append (every-more g e) h = every-more g (every-append e h)
-
-every-kept : {A : Type 0} {G : A → Type 0} (p : A → Bool) {xs : List A} → Every G xs → Every G (kept p xs)
-unfolding kept
-every-kept p every-none = every-none
-every-kept {G = G} p (every-more {x} {xs} g e) = go (p x) (every-kept p e)
-  where
-    go : (b : Bool) → Every G (kept p xs) → Every G (keepIf b x (kept p xs))
-    go true q = every-more g q
-    go false q = q
-
 every-groups : {G : Declaration U → Type 0} (ks : List ℕ) {ds : List (Declaration U)} → Every G ds → Every G (groups ks ds)
 unfolding groups
 every-groups [] e = every-none
@@ -197,11 +169,7 @@ every-grouped e = every-groups kinds e
 top-append : (xs ys : List (Declaration U)) → hasTop (xs ++ ys) ≡ (hasTop xs || hasTop ys)
 unfolding hasTop
 top-append [] ys = refl
-top-append (x ∷ xs) ys = rw (top-append xs ys) (or-assoc (isTop x) (hasTop xs) (hasTop ys))
-  where
-    or-assoc : (a b c : Bool) → (a || (b || c)) ≡ ((a || b) || c)
-    or-assoc true b c = refl
-    or-assoc false b c = refl
+top-append (x ∷ xs) ys = rw (top-append xs ys) (sym (or-assoc (isTop x) (hasTop xs) (hasTop ys)))
 
 -- a top rule is of kind 2 or 23
 top-kinds : (ds : List (Declaration U)) → hasTop ds ≡ true → (hasTop (ofKind 2 ds) || hasTop (ofKind 23 ds)) ≡ true
@@ -239,11 +207,7 @@ top-group k (l ∷ ks) ds h t = top-append (ofKind l ds) (groups ks ds) ∙ go (
   where
     go : (b : Bool) → eqb k l ≡ b → (among ks k ≡ true → hasTop (ofKind k ds) ≡ true → hasTop (groups ks ds) ≡ true) → (hasTop (ofKind l ds) || hasTop (groups ks ds)) ≡ true
     go true e f = or-left (hasTop (ofKind l ds)) (hasTop (groups ks ds)) (ap (λ n. hasTop (ofKind n ds)) (sym (eqb-true k l e)) ∙ t)
-    go false e f = or-right (hasTop (ofKind l ds)) (hasTop (groups ks ds)) (f (rest (eqb k l) e h) t)
-      where
-        rest : (b : Bool) → b ≡ false → (b || among ks k) ≡ true → among ks k ≡ true
-        rest true z m = clash true refl z
-        rest false z m = m
+    go false e f = or-right (hasTop (ofKind l ds)) (hasTop (groups ks ds)) (f (or-rest (eqb k l) (among ks k) e h) t)
 
 pub grouped-top : (ds : List (Declaration U)) → hasTop ds ≡ true → hasTop (grouped ds) ≡ true
 grouped-top ds h = go (hasTop (ofKind 2 ds)) refl (top-kinds ds h)

@@ -1,16 +1,16 @@
 -- The tokens that a good tree is written as: each, spelled out, is read as that token.
 -- Assumes nothing.
-use Prim.Native.Nat.{ℕ, zero, suc, _<_, _≤_}
+use Prim.Native.Nat.{ℕ, zero, suc, _<_}
 use Prim.Native.Char.{Char, code}
 use Prim.Native.String.{String}
 use native.Mathlib.Omega.{arith}
-use mathlib.Core.Path.{_≡_, refl, ap, sym, _∙_}
+use mathlib.Core.Path.{_≡_, refl}
 use mathlib.Core.Bool.{Bool, true, false, _&&_, _||_}
 use mathlib.Core.List.{List, [], _∷_, _++_}
-use mathlib.Core.Option.{Option, none, some}
+use mathlib.Core.Option.{some}
 use Rattle.basics.specs.Basics.{letters, is}
 use Rattle.basics.proofs.Tests.{both-true}
-use Rattle.characters.specs.Classes.{whiteSpace, isPunctuation, isWord}
+use Rattle.characters.specs.Classes.{isPunctuation, isWord}
 use Rattle.characters.specs.Alphabetic.{spans, isAlphabetic}
 use Rattle.characters.specs.Spans.{Span, inSpans}
 use Rattle.characters.specs.Utf8.{isScalar}
@@ -19,13 +19,14 @@ use Rattle.characters.proofs.Chars.{Scalars, none-left, one-more}
 use Rattle.lexer.specs.Tokens.{Kind}
 use Rattle.lexer.proofs.Back.{Words, no-more, Written, a-name, an-at, a-string, a-set, a-not-set, a-mark}
 use Rattle.lexer.proofs.Back as B
-use Rattle.tree.specs.Syntax.{Identifier, PropPart, value, Prop, ConflictMarkerKind, ambiguity, precedence, ConflictMarker, SpecializeKind, extend, specialize, RepeatKind, optional, zeroOrMore, oneOrMore, CharClass, asciiLetter, asciiLowercase, asciiUppercase, digit, whitespace, eof, Expression, special, inline, choice, sequence, empty, repeat, set, any, class, Expressions, []ᴱ, _∷ᴱ_, Slots, last, slot}
+use Rattle.tree.specs.Syntax.{Identifier, PropPart, Prop, ConflictMarkerKind, ambiguity, precedence, ConflictMarker, SpecializeKind, extend, specialize, RepeatKind, optional, zeroOrMore, oneOrMore, CharClass, asciiLetter, asciiLowercase, asciiUppercase, digit, whitespace, eof, Expression, set, Expressions, Slots}
 use Rattle.spelling.specs.Spelling.{quoted, spansText, spell}
-use Rattle.spelling.specs.NormalText.{each, eachAfter, commas, bracketed, mark, at, word, string, identifier, markerSign, repeatSign, specializeWord, className, bracketIf, propName, partTokens, valueTokens, propTokens, propsTokens, isChoice, isSequence, markerTokens, expressionTokens, argumentsTokens, moreArguments, armsTokens, moreArms, slotsTokens, bodyTokens}
+use Rattle.spelling.specs.NormalText.{each, eachAfter, commas, bracketed, mark, at, word, string, identifier, markerSign, repeatSign, specializeWord, className, bracketIf, propName, partTokens, valueTokens, propTokens, propsTokens, isChoice, isSequence, markerTokens, expressionTokens, argumentsTokens, moreArguments, armsTokens, moreArms, slotsTokens}
 use Rattle.spelling.proofs.Back.{quoted-body, spans-body, Ascii, no-ascii, more-ascii, spans-ascii}
 use Rattle.laws.proofs.Lists.{not-empty}
 use Rattle.laws.proofs.Fine.{U, Word}
-use Rattle.laws.proofs.Readable.{Every, every-none, every-more, GoodName, GoodPart, good-value, good-braced, GoodProp, GoodMarker, Grade, Each, each-none, each-more, Item, item-name, item-special, item-inline, item-choice, item-sequence, item-empty, item-repeat, item-literal, item-set, item-any, item-class, InSlots, in-last, in-slot, Arm, arm-sequence, arm-item, Arms, arms-none, arms-more, Level, level-choice, level-arm, Readable}
+use Rattle.laws.proofs.Readable.{GoodName, GoodPart, good-value, good-braced, GoodProp, GoodMarker, Grade, Each, each-none, each-more, Item, item-name, item-special, item-inline, item-choice, item-sequence, item-empty, item-repeat, item-literal, item-set, item-any, item-class, InSlots, in-last, in-slot, Arm, arm-sequence, arm-item, Arms, arms-none, arms-more, Level, level-choice, level-arm, Readable}
+use Rattle.laws.proofs.Every.{Every, every-none, every-more}
 
 -- ------------------------------------------------------------------ single tokens
 

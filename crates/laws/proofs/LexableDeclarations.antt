@@ -1,24 +1,23 @@
 -- The tokens that good declarations are written as are each read back.
 -- Assumes nothing.
 use Prim.Native.Nat.{ℕ}
-use mathlib.Core.Path.{_≡_, refl}
+use mathlib.Core.Path.{refl}
 use mathlib.Core.Bool.{Bool, true, false}
-use mathlib.Core.List.{List, [], _∷_, _++_, map}
+use mathlib.Core.List.{List}
 use mathlib.Core.Option.{Option, none, some}
-use Rattle.basics.specs.Basics.{letters}
-use Rattle.characters.proofs.Chars.{Scalars}
 use Rattle.lexer.specs.Tokens.{Kind}
-use Rattle.tree.specs.Syntax.{Identifier, SpecializeKind, extend, specialize, Expression, RuleDeclaration, TokenReference, referred, TokenPrecDeclaration, TokenConflictDeclaration, LiteralDeclaration, NamedNode, ExternalPropDeclaration, PrecKind, left, right, cut, PrecItem, Declaration, GrammarDeclaration}
+use Rattle.tree.specs.Syntax.{Identifier, SpecializeKind, extend, specialize, Expression, RuleDeclaration, TokenReference, TokenPrecDeclaration, TokenConflictDeclaration, LiteralDeclaration, NamedNode, ExternalPropDeclaration, PrecKind, left, right, cut, PrecItem, Declaration, GrammarDeclaration}
 use Rattle.notation.specs.Members.{Member, declaration, dialects, externalProp, detectDelim}
 use Rattle.notation.specs.Limits.{levels}
-use Rattle.spelling.specs.NormalText.{each, commas, mark, at, word, identifier, specializeWord, precTokens, fromTokens, expressionTokens, bodyTokens, ruleTokens, topRuleTokens, referenceTokens, tokenPrecTokens, tokenConflictTokens, literalTokens, namedNodeTokens, fallbackTokens, precItemTokens, conflictsTokens, externalSetTokens, declarationTokens, externalPropTokens}
+use Rattle.spelling.specs.NormalText.{commas, mark, word, specializeWord, precTokens, fromTokens, expressionTokens, bodyTokens, ruleTokens, topRuleTokens, referenceTokens, tokenPrecTokens, tokenConflictTokens, literalTokens, namedNodeTokens, fallbackTokens, precItemTokens, conflictsTokens, externalSetTokens, declarationTokens, externalPropTokens}
 use Rattle.laws.proofs.Lists.{not-empty}
-use Rattle.laws.proofs.Fine.{U, Word}
-use Rattle.laws.proofs.Readable.{Every, every-none, every-more, GoodName, GoodProp}
+use Rattle.laws.proofs.Fine.{U}
+use Rattle.laws.proofs.Readable.{GoodName}
 use Rattle.laws.proofs.MeetsExpressions.{Found, found-none, found-some, GoodRule}
 use Rattle.laws.proofs.Good.{Outer, GoodReference, GoodTokenPrec, GoodTokenConflict, GoodLiteral, GoodNode, GoodPrecItem, GoodSource, GoodExternalProp, GoodDeclaration, good-top, good-rule, good-tokens, good-local, good-context, good-external, good-specializer, good-prop-source, good-precedences, good-skip, good-scoped, GoodGrammar}
 use Rattle.laws.proofs.ReadBackGrammar.{memberTokens, members, dialectMembers, detectMembers}
-use Rattle.laws.proofs.Lexable.{Lexable, name-lexable, string-lexable, isSign, sign, isKeyword, Keeps, one-keeps, more-keeps, then-keeps, none-keeps, word-keeps, at-keeps, each-keeps, commas-keep, bracketed-keeps, identifier-keeps, props-keep, item-keeps, readable-keeps}
+use Rattle.laws.proofs.Lexable.{name-lexable, string-lexable, isSign, sign, isKeyword, Keeps, one-keeps, more-keeps, then-keeps, none-keeps, word-keeps, at-keeps, each-keeps, commas-keep, bracketed-keeps, identifier-keeps, props-keep, item-keeps, readable-keeps}
+use Rattle.laws.proofs.Every.{Every, every-none, every-more, every-append, every-map}
 
 outer-keeps : (e : Expression U) → Outer e → Keeps (expressionTokens e)
 outer-keeps e r = readable-keeps levels e r
@@ -135,14 +134,6 @@ external-prop-keeps {x} g =
 -- a member's line
 pub record Line (m : Member U) : Type 0 where
   pub keeps : Keeps (memberTokens m)
-
-every-append : {G : Member U → Type 0} {xs ys : List (Member U)} → Every G xs → Every G ys → Every G (xs ++ ys)
-every-append every-none r = r
-every-append (every-more g q) r = every-more g (every-append q r)
-
-every-map : {A : Type 0} {H : A → Type 0} {G : Member U → Type 0} (f : A → Member U) → ((x : A) → H x → G (f x)) → {xs : List A} → Every H xs → Every G (map f xs)
-every-map f h every-none = every-none
-every-map f h (every-more g q) = every-more (h _ g) (every-map f h q)
 
 dialects-line : {ns : List (Identifier U)} → Every GoodName ns → Every Line (dialectMembers ns)
 unfolding isKeyword

@@ -1,4 +1,5 @@
 pub mod Lists
+pub mod Every
 pub mod Alike
 pub mod AlikeExpressions
 pub mod AlikeDeclarations

@@ -1,39 +1,26 @@
 -- Laws of lists that the other files share.
 -- Assumes nothing.
-use Prim.Native.Nat.{ℕ}
-use native.Mathlib.Omega.{arith}
-use mathlib.Core.Path.{_≡_, refl, ap, sym, _∙_}
+use mathlib.Core.Path.{_≡_, refl, sym}
 use mathlib.Core.Bool.{Bool, true, false}
-use mathlib.Core.List.{List, [], _∷_, _++_, map}
+use mathlib.Core.List.{List, [], _∷_, _++_, map, append-assoc, map-append}
 use mathlib.Core.Option.{Option, none, some}
 use Rattle.basics.specs.Basics.{concat, lastOf, firstOf, isEmpty, orNot, keepIf, kept, picked}
+use Rattle.basics.proofs.Tests.{impossible}
 
--- tests that disagree
-pub clash : {A : Type 0} (b : Bool) → b ≡ true → b ≡ false → A
-clash b p q = let z : _≡_ {A = ℕ} 0 1 = cc in absurd (omega arith)
-
-pub not-true : (b : Bool) → (b ≡ true → ⊥) → b ≡ false
-not-true true h = absurd (h refl)
-not-true false h = refl
+-- a test that cannot hold
+pub untrue : (b : Bool) → (b ≡ true → ⊥) → b ≡ false
+untrue true h = absurd (h refl)
+untrue false h = refl
 
 abbrev pub onOption : {A B : Type 0} → (A → B) → Option A → Option B
 onOption g none = none
 onOption g (some a) = some (g a)
 
 module _ {A : Type 0} where
-  pub append-none : (xs : List A) → xs ++ [] ≡ xs
-  append-none [] = refl
-  append-none (x ∷ xs) = ap (λ (l : List A). x ∷ l) (append-none xs)
-
   pub append-one : (xs : List A) (y : A) (ys : List A) → (xs ++ y ∷ []) ++ ys ≡ xs ++ y ∷ ys
-  append-one [] y ys = refl
-  append-one (x ∷ xs) y ys = ap (λ (l : List A). x ∷ l) (append-one xs y ys)
+  append-one xs y ys = append-assoc xs (y ∷ []) ys
 
 module _ {A B : Type 0} (g : A → B) where
-  pub map-append : (xs ys : List A) → map g (xs ++ ys) ≡ map g xs ++ map g ys
-  map-append [] ys = refl
-  map-append (x ∷ xs) ys = ap (λ (l : List B). g x ∷ l) (map-append xs ys)
-
   pub map-isEmpty : (xs : List A) → isEmpty (map g xs) ≡ isEmpty xs
   map-isEmpty [] = refl
   map-isEmpty (x ∷ xs) = refl
@@ -45,7 +32,7 @@ module _ {A B : Type 0} (g : A → B) where
   pub map-concat : (xss : List (List A)) → concat (map (map g) xss) ≡ map g (concat xss)
   unfolding concat
   map-concat [] = refl
-  map-concat (xs ∷ xss) = rw (map-concat xss) (sym (map-append xs (concat xss)))
+  map-concat (xs ∷ xss) = rw (map-concat xss) (sym (map-append g xs (concat xss)))
 
   pub map-lastOf : (xs : List A) → lastOf (map g xs) ≡ map g (lastOf xs)
   unfolding lastOf
@@ -76,4 +63,4 @@ module _ {A B A′ B′ : Type 0} (g : A → A′) (h : B → B′) (p : B → O
       go (some a) = refl
 
 pub not-empty : {A : Type 0} {x : A} {xs : List A} → x ∷ xs ≡ [] → ⊥
-not-empty e = let z : _≡_ {A = ℕ} 0 1 = cc in omega arith
+not-empty e = impossible (cc)

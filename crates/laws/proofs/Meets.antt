@@ -8,14 +8,13 @@ use mathlib.Core.Bool.{Bool, true, false}
 use mathlib.Core.List.{List, [], _∷_, _++_}
 use mathlib.Core.Option.{Option, none, some}
 use Rattle.basics.specs.Basics.{if_then_else_}
+use Rattle.basics.proofs.Tests.{clash}
 use Rattle.lexer.specs.Tokens.{Kind, Tokens, token, eof, bad}
-use Rattle.lexer.specs.Escapes.{decodeString}
-use Rattle.tree.specs.Syntax.{Identifier}
-use Rattle.notation.specs.Parser.{Answer, read, refused, Parser, andThen, _>>=_, _>>_, pure, refuse, choose, startOf, here, refuseHere, kindOf, kind, arrive, next, markIn, nameIn, atIn, stringIn, isMark, says, eatIf, eat, eatName, eatAt, must, expect, expectName, taken, expectString, parseIdentifier, size, turns, loop, separate, untilStep, until, comma, commaOrNot, nothing}
-use Rattle.laws.proofs.Lists.{clash}
+use Rattle.notation.specs.Parser.{Answer, read, refused, Parser, andThen, _>>=_, _>>_, pure, refuse, choose, here, refuseHere, kindOf, kind, arrive, next, nameIn, atIn, stringIn, isMark, says, eatIf, eat, eatName, eatAt, must, expect, expectName, taken, expectString, parseIdentifier, size, turns, loop, separate, untilStep, until, commaOrNot, nothing}
 use Rattle.characters.proofs.Chars.{Scalars}
-use Rattle.laws.proofs.Fine.{U, Word, FineKind, fine-name, fine-at, fine-string, fine-set, fine-mark, Fine, fine-token, fine-eof, fine-bad}
-use Rattle.laws.proofs.Readable.{Every, every-none, every-more, GoodName}
+use Rattle.laws.proofs.Fine.{U, Word, FineKind, fine-name, fine-at, fine-string, fine-set, fine-mark, Fine, fine-token}
+use Rattle.laws.proofs.Readable.{GoodName}
+use Rattle.laws.proofs.Every.{Every, every-none, every-one}
 
 abbrev pub After : {A : Type 0} → (A → Tokens U → Type 0) → Answer U A → Type 0
 After Q (read a ts) = Fine ts × Q a ts
@@ -209,10 +208,6 @@ module _ {A : Type 0} (I Q : List A → Tokens U → Type 0) (step : List A → 
   pub loop-meets : (ts : Tokens U) → I [] ts → Meets (loop step) ts Q
   unfolding loop
   loop-meets ts i = record { holds = λ o. turns-meets (suc (suc (size ts))) [] ts i .holds o }
-
-pub every-one : {A : Type 0} {G : A → Type 0} {xs : List A} {y : A} → Every G xs → G y → Every G (xs ++ y ∷ [])
-every-one every-none g = every-more g every-none
-every-one (every-more h e) g = every-more h (every-one e g)
 
 separate-meets : {A : Type 0} (between : Parser U (Unit {0})) → ((ts : Tokens U) → Meets between ts (λ u us. Unit {0}))
     → (before : List A) (ts : Tokens U) → Meets (separate between before) ts (λ u us. Unit {0})

@@ -3,27 +3,28 @@
 use Prim.Native.Nat.{ℕ}
 use mathlib.Core.Path.{_≡_, refl, ap, sym, _∙_}
 use mathlib.Core.Bool.{Bool, true, false, _&&_}
-use mathlib.Core.List.{List, [], _∷_, _++_}
+use mathlib.Core.List.{List, [], _∷_, _++_, append-nil}
 use mathlib.Core.Option.{Option, none, some}
-use lib.ListN.{length}
-use Rattle.basics.specs.Basics.{if_then_else_, spells, concat, lastOf, firstOf, isEmpty, picked, orNot}
+use Rattle.basics.specs.Basics.{if_then_else_, spells, lastOf, firstOf, isEmpty, picked, orNot}
+use Rattle.basics.proofs.Lists.{picked-one}
+use Rattle.basics.proofs.Tests.{clash}
 use Rattle.error.specs.Causes.{noTop}
 use Rattle.lexer.specs.Tokens.{Tokens}
-use Rattle.tree.specs.Syntax.{Identifier, Expression, SpecializeKind, RuleDeclaration, TokenReference, referred, TokenPrecDeclaration, TokenConflictDeclaration, LiteralDeclaration, NamedNode, ExternalPropDeclaration, PrecKind, PrecItem, Declaration, GrammarDeclaration, startOf, declarationKind, groups, hasKind}
+use Rattle.tree.specs.Syntax.{Identifier, Expression, SpecializeKind, RuleDeclaration, TokenPrecDeclaration, TokenConflictDeclaration, LiteralDeclaration, NamedNode, ExternalPropDeclaration, Declaration, startOf, declarationKind, hasKind}
 use Rattle.notation.specs.Limits.{levels}
-use Rattle.notation.specs.Parser.{Parser, _>>=_, _>>_, pure, choose, here, kind, refuseHere, arrive, next, isEnd, isMark, nameIn, atIn, stringIn, says, eat, eatAt, eatName, expect, expectName, expectString, parseIdentifier, untilStep, until, separate, commaOrNot, nothing}
-use Rattle.notation.specs.Expressions.{parseProps, referenceOf, parseExpressionInner, parseBracedExpression, parseRuleNamed, choiceAt}
-use Rattle.notation.specs.Members.{TokenMember, tokenPrecedence, tokenConflict, tokenRule, tokenLiteral, LocalMember, localPrecedence, localRule, localFallback, SkipMember, skipTopRule, skipRule, ExternalMember, externalToken, externalConflicts, Member, declaration, dialects, externalProp, detectDelim, declared, declaredDialects, declaredProp, detects}
+use Rattle.notation.specs.Parser.{Parser, _>>=_, _>>_, pure, kind, isEnd, isMark, nameIn, atIn, stringIn, says, eat, expect, parseIdentifier, untilStep, until, separate, commaOrNot, nothing}
+use Rattle.notation.specs.Expressions.{referenceOf, parseBracedExpression, choiceAt}
+use Rattle.notation.specs.Members.{TokenMember, tokenPrecedence, tokenConflict, tokenRule, tokenLiteral, LocalMember, localPrecedence, localRule, localFallback, SkipMember, skipTopRule, skipRule, ExternalMember, externalToken, externalConflicts, Member, declaration, dialects, externalProp, detectDelim, declared, declaredDialects, declaredProp}
 use Rattle.notation.specs.Declarations.{parseRule, referenceBy, parseTokenReference, parseTokenPrecedence, parseTokenConflict, parseLiteral, parseNamedNode, tokenMemberBy, parseTokenMember, parseTokens, parseLocalMember, parseLocalTokens, parseSource, parseExternalMember, parseExternalTokenSet, parseExternalTokens, parseExternalSpecializer, parseExternalPropSource, parseExternalProp, externalBy, parseExternalDeclaration, parsePrecKind, parsePrecItem, parsePrecedence, seen, parseContextDeclaration, parseSkipMember, parseSkipDeclaration, topBy, parseDirective, declarationBy, parseDeclaration, hasTop, grammarOf, parse}
-use Rattle.laws.proofs.Lists.{clash, onOption}
 use Rattle.characters.proofs.Chars.{Scalars}
-use Rattle.laws.proofs.Fine.{U, Word}
-use Rattle.laws.proofs.Readable.{Every, every-none, every-more, GoodName, GoodProp, blank, Item, item-name, item-special, item-inline, item-choice, item-sequence, item-empty, item-repeat, item-literal, item-set, item-any, item-class, Readable, readable-up}
-use Rattle.laws.proofs.Meets.{Meets, bind-meets, pure-meets, refuse-meets, refuseHere-meets, choose-meets, if-meets, weaken, here-meets, kind-meets, arrive-meets, next-meets, eatName-meets, eatAt-meets, expectName-meets, Given, given-none, given-some, string-given, expectString-meets, parseIdentifier-meets, Leads, loop-meets, every-one, until-meets, eat-any, expect-any, comma-or-not, nothing-meets}
+use Rattle.laws.proofs.Fine.{U}
+use Rattle.laws.proofs.Readable.{GoodName, blank, Item, item-name, item-special, item-inline, item-choice, item-sequence, item-empty, item-repeat, item-literal, item-set, item-any, item-class, readable-up}
+use Rattle.laws.proofs.Meets.{Meets, bind-meets, pure-meets, refuse-meets, refuseHere-meets, choose-meets, if-meets, weaken, here-meets, kind-meets, arrive-meets, next-meets, eatName-meets, eatAt-meets, expectName-meets, Given, given-some, string-given, expectString-meets, parseIdentifier-meets, loop-meets, until-meets, eat-any, expect-any, comma-or-not, nothing-meets}
 use Rattle.laws.proofs.MeetsExpressions.{Found, found-none, found-some, parseProps-meets, GoodRule, parseBraced-meets, parseRuleNamed-meets, parseInner-meets, choiceAt-meets}
-use Rattle.laws.proofs.Good.{Outer, GoodReference, GoodTokenPrec, GoodTokenConflict, GoodLiteral, GoodNode, GoodPrecItem, GoodSource, GoodExternalProp, GoodDeclaration, good-top, good-rule, good-tokens, good-local, good-context, good-external, good-specializer, good-prop-source, good-precedences, good-skip, good-scoped, Singles, GoodGrammar}
+use Rattle.laws.proofs.Good.{Outer, GoodReference, GoodTokenPrec, GoodTokenConflict, GoodLiteral, GoodNode, GoodPrecItem, GoodExternalProp, GoodDeclaration, good-top, good-rule, good-tokens, good-local, good-context, good-external, good-specializer, good-prop-source, good-precedences, good-skip, good-scoped, Singles, GoodGrammar}
 use Rattle.laws.proofs.Good as Good
 use Rattle.laws.proofs.Groups.{grouped-twice, grouped-singles, Fresh, singles-more, singles-none, every-grouped, grouped-top}
+use Rattle.laws.proofs.Every.{Every, every-none, every-more, every-one, every-concat}
 
 -- ------------------------------------------------------------------ rules and blocks
 
@@ -237,15 +238,6 @@ external-lists = every-picked GoodExternalMember (Every GoodName) externalConfli
     go m (external-node g) = found-none
     go m (external-names g) = found-some g
 
-append-every : {A : Type 0} {G : A → Type 0} {xs ys : List A} → Every G xs → Every G ys → Every G (xs ++ ys)
-append-every every-none h = h
-append-every (every-more g e) h = every-more g (append-every e h)
-
-every-concat : {A : Type 0} {G : A → Type 0} {xss : List (List A)} → Every (Every G) xss → Every G (concat xss)
-unfolding concat
-every-concat every-none = every-none
-every-concat (every-more g q) = append-every g (every-concat q)
-
 parseExternalTokens-meets : (p : U) (ts : Tokens U) → Meets (parseExternalTokens p) ts (λ d us. GoodDeclaration d × (declarationKind d ≡ 16))
 unfolding parseExternalTokens
 parseExternalTokens-meets p ts =
@@ -396,19 +388,6 @@ declarationBy-meets before p none ts = bind-meets _ (parseRule-meets ts) λ r us
 -- what is kept of the members read: each is good, and there is one at most of those that may come once
 abbrev AllFit : List (Member U) → Tokens U → Type 0
 AllFit ms us = Every GoodMember ms × Singles (picked declared ms)
-
-picked-one : {A B : Type 0} (p : A → Option B) (xs : List A) (x : A) → picked p (xs ++ x ∷ []) ≡ picked p xs ++ orNot (p x) []
-unfolding picked
-picked-one p [] x = refl
-picked-one p (y ∷ ys) x = rw (picked-one p ys x) (go (p y))
-  where
-    go : (o : Option _) → orNot o (picked p ys ++ orNot (p x) []) ≡ orNot o (picked p ys) ++ orNot (p x) []
-    go none = refl
-    go (some b) = refl
-
-append-nil : {A : Type 0} (xs : List A) → xs ++ [] ≡ xs
-append-nil [] = refl
-append-nil (x ∷ xs) = ap (λ l. x ∷ l) (append-nil xs)
 
 one-more : (before : List (Member U)) (m : Member U) (us : Tokens U) → AllFit before us → Fits before m us → AllFit (before ++ m ∷ []) us
 one-more before (declaration d) us a f = (every-one (a .0) (f .0), rw (picked-one declared before (declaration d)) (singles-more (picked declared before) d (a .1) (f .1)))

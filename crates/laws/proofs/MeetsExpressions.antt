@@ -9,7 +9,8 @@ use mathlib.Core.List.{List, [], _∷_, _++_}
 use mathlib.Core.Option.{Option, none, some}
 use lib.Dec.{eqb}
 use lib.ListN.{length, length-append}
-use Rattle.basics.specs.Basics.{if_then_else_, letters, is, every, same, spells}
+use Rattle.basics.specs.Basics.{if_then_else_, letters, is, same, spells}
+use Rattle.basics.proofs.Tests.{impossible, clash}
 use Rattle.characters.specs.Alphabetic.{spans as alphabetic, isAlphabetic}
 use Rattle.characters.specs.Classes.{isWord}
 use Rattle.characters.specs.Spans.{Span, inSpans}
@@ -18,18 +19,18 @@ use Rattle.lexer.specs.Tokens.{Kind, Tokens}
 use Rattle.lexer.specs.Escapes.{decodeString}
 use Rattle.lexer.specs.Sets.{spans, fault, sorted}
 use Rattle.tree.specs.CharClasses.{fromName}
-use Rattle.tree.specs.Syntax.{Identifier, PropPart, Prop, ConflictMarker, ConflictMarkerKind, SpecializeKind, RepeatKind, CharClass, Expression, Expressions, []ᴱ, _∷ᴱ_, Slots, last, slot, RuleDeclaration, TokenReference, startOf, expressions}
+use Rattle.tree.specs.Syntax.{Identifier, ConflictMarker, ConflictMarkerKind, SpecializeKind, RepeatKind, CharClass, Expression, _∷ᴱ_, Slots, last, slot, RuleDeclaration, startOf, expressions}
 use Rattle.notation.specs.Limits.{repeats}
-use Rattle.notation.specs.Parser.{Answer, Parser, _>>=_, _>>_, pure, choose, here, kind, kindOf, next, markIn, nameIn, atIn, isMark, says, endsSequence, eat, expect, parseIdentifier, loop, separate, untilStep, until, comma}
+use Rattle.notation.specs.Parser.{Parser, kindOf, markIn, nameIn, atIn, isMark, endsSequence, eat, loop, separate, untilStep, comma}
 use Rattle.notation.specs.Expressions.{repeatMark, markerMark, Item as SeqItem, marker, expression, partBy, parsePart, propNamed, propBy, parseProp, parseProps, classBy, stdClassBy, setBy, parseSetExpression, literalOf, referenceOf, contentBy, inlineBy, stacked, repeatBy, parseRepeat, repeated, slots, sequenceOf, isEmptyArm, firstEmptyArm, choiceBy, choiceOf, parseBracedExpression, parseRuleNamed, parseInlineRuleExpression, parseSpecializeExpression, parseParenthesizedExpression, parseArguments, parseNamed, innerBy, parseExpressionInner, parseExpressionSuffix, itemBy, parseItem, parseExpressionSequence, parseArm, parseExpressionChoice, choiceAt}
-use Rattle.spelling.specs.NormalText.{isChoice, isSequence}
-use Rattle.laws.proofs.Lists.{clash, not-true}
 use Rattle.characters.proofs.Chars.{Scalars}
 use Rattle.characters.proofs.Chars as Chars
-use Rattle.lexer.proofs.Back.{Words, no-more, one-more}
-use Rattle.laws.proofs.Fine.{U, Word, ReadBack, FineKind, fine-name, fine-at, fine-string, fine-set, fine-mark}
-use Rattle.laws.proofs.Readable.{Every, every-none, every-more, GoodName, GoodPart, good-value, good-braced, GoodProp, GoodMarker, blank, soleBlank, lone, Grade, Each, each-none, each-more, Item, item-name, item-special, item-inline, item-choice, item-sequence, item-empty, item-repeat, item-literal, item-set, item-any, item-class, InSlots, in-last, in-slot, Arm, arm-sequence, arm-item, Arms, arms-none, arms-more, Level, level-choice, level-arm, Readable, readable-up}
-use Rattle.laws.proofs.Meets.{Meets, bind-meets, pure-meets, refuse-meets, refuseHere-meets, choose-meets, if-meets, weaken, here-meets, FineOption, fine-none, fine-some, kind-meets, next-meets, eat-meets, expect-meets, Given, given-none, given-some, name-given, at-given, parseIdentifier-meets, Leads, loop-meets, every-one, until-meets, eat-any, expect-any}
+use Rattle.lexer.proofs.Back.{no-more, one-more}
+use Rattle.laws.proofs.Fine.{U, Word, ReadBack, fine-name, fine-string, fine-set}
+use Rattle.laws.proofs.Readable.{GoodName, GoodPart, good-value, good-braced, GoodProp, GoodMarker, blank, soleBlank, Grade, Each, each-none, each-more, Item, item-name, item-special, item-inline, item-choice, item-sequence, item-empty, item-repeat, item-literal, item-set, item-any, item-class, InSlots, in-last, in-slot, Arm, arm-sequence, arm-item, Arms, arms-none, arms-more, Level, level-choice, level-arm, Readable, readable-up, item-stacked}
+use Rattle.laws.proofs.Meets.{Meets, bind-meets, pure-meets, refuse-meets, refuseHere-meets, choose-meets, if-meets, weaken, here-meets, FineOption, fine-some, kind-meets, next-meets, eat-meets, expect-meets, Given, given-some, name-given, at-given, parseIdentifier-meets, Leads, loop-meets, until-meets, eat-any, expect-any}
+use Rattle.laws.proofs.Every.{Every, every-none, every-more, every-one}
+use Rattle.laws.proofs.Lists.{untrue}
 
 -- ------------------------------------------------------------------ props
 
@@ -43,7 +44,7 @@ anon-word : Word (letters "_anon")
 unfolding isWord isScalar isAlphabetic inSpans alphabetic
 anon-word =
     record {
-      some = λ e. let z : _≡_ {A = ℕ} 0 1 = cc in absurd (omega arith);
+      some = λ e. impossible (cc);
       words = one-more refl (one-more refl (one-more refl (one-more refl (one-more refl no-more))));
       scalars = Chars.one-more refl (Chars.one-more refl (Chars.one-more refl (Chars.one-more refl (Chars.one-more refl Chars.none-left))));
     }
@@ -174,20 +175,6 @@ module _ (R : Grade) where
   repeated-item p [] e i h = i
   repeated-item p (r ∷ rs) e i h = repeated-item p rs (Expression.repeat p r e) (item-repeat i (omega arith)) (omega arith)
 
-  item-stacked : {e : Expression U} → Item R e → stacked e ≤ repeats
-  unfolding stacked
-  item-stacked (item-name w n q b) = omega arith
-  item-stacked (item-special g r q) = omega arith
-  item-stacked (item-inline w n g r) = omega arith
-  item-stacked (item-choice r) = omega arith
-  item-stacked (item-sequence r b) = omega arith
-  item-stacked item-empty = omega arith
-  item-stacked (item-repeat i h) = h
-  item-stacked (item-literal s) = omega arith
-  item-stacked (item-set g) = omega arith
-  item-stacked item-any = omega arith
-  item-stacked item-class = omega arith
-
   -- ------------------------------------------------------------------ arguments
 
   -- what is known of the first argument: one that writes no token has taken none
@@ -204,7 +191,7 @@ module _ (R : Grade) where
   soleBlank-of : (ts : Tokens U) (es : List (Expression U)) (us : Tokens U) → Sole ts es us → isMark ">" (kindOf us) ≡ true → soleBlank (expressions es) ≡ false
   unfolding expressions
   soleBlank-of ts [] us s h = refl
-  soleBlank-of ts (e ∷ []) us s h = not-true (blank e) λ b. clash (isMark ">" (kindOf ts)) (ap (λ vs. isMark ">" (kindOf vs)) (sym (s .0 b)) ∙ h) (s .1)
+  soleBlank-of ts (e ∷ []) us s h = untrue (blank e) λ b. clash (isMark ">" (kindOf ts)) (ap (λ vs. isMark ">" (kindOf vs)) (sym (s .0 b)) ∙ h) (s .1)
   soleBlank-of ts (e ∷ f ∷ es) us s h = refl
 
   sole-more : (ts : Tokens U) (before : List (Expression U)) (us vs ws : Tokens U) (e : Expression U) → Sole ts before us → isMark ">" (kindOf us) ≡ false
@@ -291,7 +278,7 @@ module _ (R : Grade) where
         choose-meets closed (λ t. pure-meets _ us item-empty)
         (λ f. bind-meets _ (below-meets us) λ e vs r. bind-meets _ (expect-meets ")" vs) λ u ws g.
         pure-meets e ws (bracketed e (r .0)
-        (not-true (blank e) λ b. clash (isMark ")" (kindOf ts)) (ap (λ us. isMark ")" (kindOf us)) (sym (h .1 f) ∙ sym (r .1 b)) ∙ g) (h .0 ∙ f)) (up e (r .0))))
+        (untrue (blank e) λ b. clash (isMark ")" (kindOf ts)) (ap (λ us. isMark ")" (kindOf us)) (sym (h .1 f) ∙ sym (r .1 b)) ∙ g) (h .0 ∙ f)) (up e (r .0))))
 
     parseNamed-meets : (p : U) (t : List ℕ) (k : Option Kind) → Word t → spells "_" t ≡ false → (ts : Tokens U) → Meets (parseNamed below p t k) ts (λ e us. Item R e)
     unfolding parseNamed
@@ -340,8 +327,8 @@ module _ (R : Grade) where
     Items ts l us = Every GoodItem l × (l ≡ [] → us ≡ ts)
 
     not-none : {A B : Type 0} (xs : List A) (x : A) → xs ++ x ∷ [] ≡ [] → B
-    not-none [] x e = let z : _≡_ {A = ℕ} 0 1 = cc in absurd (omega arith)
-    not-none (y ∷ ys) x e = let z : _≡_ {A = ℕ} 0 1 = cc in absurd (omega arith)
+    not-none [] x e = impossible (cc)
+    not-none (y ∷ ys) x e = impossible (cc)
 
     itemBy-meets : (ts : Tokens U) (before : List (SeqItem U)) (p : U) (k : Option Kind) (m : Option ConflictMarkerKind) (us : Tokens U) → Items ts before us
         → Meets (itemBy below p k m) us (Leads (Items ts) (Items ts) before)
@@ -426,7 +413,7 @@ module _ (R : Grade) where
     arms-of (e ∷ es) (every-more a q) h = go (isEmptyArm e) refl h (arms-of es q)
       where
         go : (b : Bool) → isEmptyArm e ≡ b → (if b then some (startOf e) else firstEmptyArm es) ≡ none → (firstEmptyArm es ≡ none → Arms R (expressions es)) → Arms R (e ∷ᴱ expressions es)
-        go true z h k = let w : _≡_ {A = ℕ} 0 1 = cc in absurd (omega arith)
+        go true z h k = impossible (cc)
         go false z h k = arms-more a z (k h)
 
     choiceBy-meets : (p : U) (e f : Expression U) (fs : List (Expression U)) (o : Option U) → firstEmptyArm (e ∷ f ∷ fs) ≡ o → Every (Arm R) (e ∷ f ∷ fs) → (ts : Tokens U)

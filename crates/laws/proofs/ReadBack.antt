@@ -1,23 +1,23 @@
 -- What a parser gives on written tokens: the record `Reads`, and one law for each combinator and each kind of list.
 -- Assumes nothing.
-use Prim.Native.Nat.{ℕ, zero, suc, _+_, _<_, _≤_}
+use Prim.Native.Nat.{ℕ, zero, suc, _+_, _<_}
 use Prim.Native.Char.{Char, code}
 use Prim.Native.String.{String}
 use native.Mathlib.Omega.{arith}
-use mathlib.Core.Path.{_≡_, refl, ap, sym, _∙_}
+use mathlib.Core.Path.{_≡_, refl, ap, _∙_}
 use mathlib.Core.Bool.{Bool, true, false}
-use mathlib.Core.List.{List, [], _∷_, _++_}
+use mathlib.Core.List.{List, [], _∷_, _++_, append-nil}
 use mathlib.Core.Option.{Option, none, some}
 use lib.ListN.{length}
-use Rattle.basics.specs.Basics.{if_then_else_, firstOf}
-use Rattle.lexer.specs.Tokens.{Kind, Tokens, token, eof, bad}
+use Rattle.basics.specs.Basics.{firstOf}
+use Rattle.lexer.specs.Tokens.{Kind, Tokens, token, eof}
 use Rattle.lexer.specs.Escapes.{decodeString}
 use Rattle.tree.specs.Syntax.{Identifier}
-use Rattle.notation.specs.Parser.{Answer, read, refused, Parser, andThen, _>>=_, _>>_, pure, choose, startOf, here, kindOf, kind, arrive, next, markIn, nameIn, atIn, stringIn, isMark, says, eatIf, eat, eatName, eatAt, must, expect, expectName, taken, expectString, parseIdentifier, size, turns, loop, separate, untilStep, until, comma, commaOrNot, nothing}
-use Rattle.spelling.specs.NormalText.{each, eachAfter, commas, bracketed, mark}
-use Rattle.laws.proofs.Lists.{append-none, append-one}
+use Rattle.notation.specs.Parser.{read, Parser, andThen, _>>=_, _>>_, pure, choose, here, kindOf, kind, arrive, next, nameIn, atIn, isMark, says, eatIf, eat, eatName, eatAt, must, expect, expectName, taken, expectString, parseIdentifier, size, turns, loop, separate, untilStep, until, comma, commaOrNot, nothing}
+use Rattle.spelling.specs.NormalText.{each, eachAfter, commas, mark}
+use Rattle.laws.proofs.Lists.{append-one}
 use Rattle.laws.proofs.Fine.{U}
-use Rattle.laws.proofs.Readable.{Every, every-none, every-more}
+use Rattle.laws.proofs.Every.{Every, every-none, every-more}
 
 -- tokens of these kinds, and the end
 unfoldable pub laid : List Kind → Tokens U
@@ -138,7 +138,7 @@ module _ {A : Type 0} (step : List A → Parser U (Option A)) (rest : List Kind)
   turns-back : (n d : ℕ) (before : List A) (ks : List Kind) (xs : List A) → length ks + d < n → Back d before ks xs → Reads (turns n step before) ks (before ++ xs) rest
   unfolding turns
   turns-back zero d before ks xs h b = absurd (omega arith)
-  turns-back (suc n) d before ks [] h (over r) = rw (append-none before) (bind-reads _ r (pure-reads before rest))
+  turns-back (suc n) d before ks [] h (over r) = rw (append-nil before) (bind-reads _ r (pure-reads before rest))
   turns-back (suc n) d before ks (x ∷ xs) h (turn e ls r less b) = rw (← append-one before x xs) (bind-reads _ r (turns-back n e (before ++ x ∷ []) ls xs (omega arith) b))
 
   pub loop-reads : (ks : List Kind) (xs : List A) → Back 1 [] ks xs → Reads (loop step) ks xs rest

@@ -4,24 +4,25 @@ use Prim.Native.Nat.{ℕ, _+_, _<_}
 use native.Mathlib.Omega.{arith}
 use mathlib.Core.Path.{_≡_, refl, ap, sym, _∙_}
 use mathlib.Core.Bool.{Bool, true, false}
-use mathlib.Core.List.{List, [], _∷_, _++_, map}
+use mathlib.Core.List.{List, [], _∷_, _++_, map, append-nil}
 use lib.ListN.{length}
 use Rattle.basics.specs.Basics.{same, concat, firstOf, picked}
+use Rattle.basics.proofs.Lists.{picked-append}
 use Rattle.lexer.specs.Tokens.{Kind}
 use Rattle.tree.specs.Syntax.{Identifier, RuleDeclaration, NamedNode}
 use Rattle.notation.specs.Parser.{_>>_, pure, choose, isMark, eat, eatAt, expect, until, nothing}
 use Rattle.notation.specs.Members.{SkipMember, skipTopRule, skipRule, ExternalMember, externalToken, externalConflicts}
 use Rattle.notation.specs.Declarations.{parseExternalMember, parseExternalTokenSet, parseSkipMember}
 use Rattle.spelling.specs.NormalText.{each, eachAfter, commas, mark, at, identifier, ruleTokens, topRuleTokens, namedNodeTokens, externalSetTokens}
-use Rattle.laws.proofs.Lists.{append-none}
 use Rattle.laws.proofs.Fine.{U}
-use Rattle.laws.proofs.Readable.{Every, every-none, every-more, GoodName}
+use Rattle.laws.proofs.Readable.{GoodName}
 use Rattle.laws.proofs.MeetsExpressions.{GoodRule}
 use Rattle.laws.proofs.Good.{Outer, GoodNode}
 use Rattle.laws.proofs.ReadBack.{Reads, bind-reads, pure-reads, choose-true, choose-false, eatAt-yes, eatAt-no, expect-reads, each-reads}
 use Rattle.laws.proofs.Follows.{Stops, stop-brace, stop-paren, stop-comma, stop-angle}
-use Rattle.laws.proofs.ReadBackRules.{names-longer, rule-reads, rule-longer, braces-reads, names-reads, node-reads, node-longer, each-append, each-map, picked-append, picked-all, picked-no, map-every, join-every}
+use Rattle.laws.proofs.ReadBackRules.{names-longer, rule-reads, rule-longer, braces-reads, names-reads, node-reads, node-longer, each-append, each-map, picked-all, picked-no}
 use Rattle.laws.proofs.ReadBackTokens.{NoSquare}
+use Rattle.laws.proofs.Every.{Every, every-none, every-more, every-map, every-append}
 
 -- ------------------------------------------------------------------ scoped `@skip`
 
@@ -55,12 +56,12 @@ module _ (ts rs : List (RuleDeclaration U)) where
       rw (each-append skipMemberTokens (map SkipMember.topRule ts) (map SkipMember.rule rs) ks, each-map skipMemberTokens SkipMember.rule rs ks, each-map skipMemberTokens SkipMember.topRule ts (each ruleTokens rs ks))
 
   skip-every : Every (GoodRule Outer) ts → Every (GoodRule Outer) rs → Every GoodSkipMember skipMembers
-  skip-every a b = join-every (map-every SkipMember.topRule (λ x. good-skip-top) a) (map-every SkipMember.rule (λ x. good-skip-rule) b)
+  skip-every a b = every-append (every-map SkipMember.topRule (λ x. good-skip-top) a) (every-map SkipMember.rule (λ x. good-skip-rule) b)
 
   pub skip-tops : picked skipTopRule skipMembers ≡ ts
   skip-tops =
       picked-append skipTopRule (map SkipMember.topRule ts) (map SkipMember.rule rs)
-      ∙ rw (picked-all skipTopRule SkipMember.topRule (λ x. refl) ts, picked-no skipTopRule SkipMember.rule (λ x. refl) rs, append-none ts)
+      ∙ rw (picked-all skipTopRule SkipMember.topRule (λ x. refl) ts, picked-no skipTopRule SkipMember.rule (λ x. refl) rs, append-nil ts)
 
   pub skip-rules : picked skipRule skipMembers ≡ rs
   skip-rules =
@@ -129,18 +130,18 @@ external-written (x ∷ xs) (n ∷ ns) ks = ap (λ l. mark "{" (namedNodeTokens 
 
 pub external-every : (allowed : Bool) (xs : List (NamedNode U)) (ns : List (Identifier U)) → (ns ≡ [] → ⊥) → allowed ≡ true → Every GoodNode xs → Every GoodName ns → Every (GoodExternalMember allowed) (externalMembers xs ns)
 external-every allowed xs [] h e a b = absurd (h refl)
-external-every allowed xs (n ∷ ns) h e a b = join-every (map-every ExternalMember.token (λ x. good-external-node) a) (every-more (good-external-names e b) every-none)
+external-every allowed xs (n ∷ ns) h e a b = every-append (every-map ExternalMember.token (λ x. good-external-node) a) (every-more (good-external-names e b) every-none)
 
 pub nodes-every : (allowed : Bool) (xs : List (NamedNode U)) → Every GoodNode xs → Every (GoodExternalMember allowed) (externalMembers xs [])
-nodes-every allowed xs a = join-every (map-every ExternalMember.token (λ x. good-external-node) a) every-none
+nodes-every allowed xs a = every-append (every-map ExternalMember.token (λ x. good-external-node) a) every-none
 
 pub external-nodes : (xs : List (NamedNode U)) (ns : List (Identifier U)) → picked externalToken (externalMembers xs ns) ≡ xs
 unfolding picked
 external-nodes xs ns = picked-append externalToken (map ExternalMember.token xs) (conflictMembers ns) ∙ rw (picked-all externalToken ExternalMember.token (λ x. refl) xs) (go ns)
   where
     go : (ns : List (Identifier U)) → xs ++ picked externalToken (conflictMembers ns) ≡ xs
-    go [] = append-none xs
-    go (n ∷ ns) = append-none xs
+    go [] = append-nil xs
+    go (n ∷ ns) = append-nil xs
 
 external-lists : (xs : List (NamedNode U)) (ns : List (Identifier U)) → picked externalConflicts (externalMembers xs ns) ≡ picked externalConflicts (conflictMembers ns)
 external-lists xs ns = picked-append externalConflicts (map ExternalMember.token xs) (conflictMembers ns) ∙ rw (picked-no externalConflicts ExternalMember.token (λ x. refl) xs)
@@ -151,7 +152,7 @@ external-names xs ns = rw (external-lists xs ns) (go ns)
   where
     go : (ns : List (Identifier U)) → concat (picked externalConflicts (conflictMembers ns)) ≡ ns
     go [] = refl
-    go (n ∷ ns) = append-none (n ∷ ns)
+    go (n ∷ ns) = append-nil (n ∷ ns)
 
 pub external-set : (allowed : Bool) (xs : List (NamedNode U)) (ns : List (Identifier U)) → Every (GoodExternalMember allowed) (externalMembers xs ns) → (ks : List Kind)
     → Reads (parseExternalTokenSet allowed) (externalSetTokens xs ns ks) (externalMembers xs ns) ks

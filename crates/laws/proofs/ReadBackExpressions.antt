@@ -4,10 +4,11 @@ use Prim.Native.Nat.{ℕ, zero, suc, _+_, _<_, _≤_}
 use native.Mathlib.Omega.{arith}
 use mathlib.Core.Path.{_≡_, refl, ap, _∙_}
 use mathlib.Core.Bool.{Bool, true, false, _&&_, _||_}
-use mathlib.Core.List.{List, [], _∷_, _++_}
+use mathlib.Core.List.{List, [], _∷_, _++_, append-nil}
 use mathlib.Core.Option.{Option, none, some}
 use lib.ListN.{length}
 use Rattle.basics.specs.Basics.{letters, same, spells, firstOf}
+use Rattle.basics.proofs.Tests.{clash}
 use Rattle.characters.specs.Spans.{Span}
 use Rattle.lexer.specs.Tokens.{Kind}
 use Rattle.tree.specs.Syntax.{Prop, ConflictMarker, ConflictMarkerKind, ambiguity, precedence, SpecializeKind, extend, specialize, RepeatKind, CharClass, asciiLetter, asciiLowercase, asciiUppercase, digit, whitespace, eof, Expression, special, inline, sequence, empty, set, any, class, Expressions, []ᴱ, _∷ᴱ_, Slots, last, slot, expressions}
@@ -17,13 +18,14 @@ use Rattle.notation.specs.Expressions.{Item as SeqItem, marker, expression, cla
 use Rattle.spelling.specs.Spelling.{quoted, spansText}
 use Rattle.spelling.specs.NormalText.{each, mark, markerSign, specializeWord, className, propsTokens, isChoice, markerTokens, expressionTokens, argumentsTokens, moreArguments, moreArms, slotsTokens, bodyTokens}
 use Rattle.spelling.proofs.Back.{decode-back, spans-back}
-use Rattle.laws.proofs.Lists.{clash, append-none, append-one}
+use Rattle.laws.proofs.Lists.{append-one}
 use Rattle.laws.proofs.Fine.{U, ReadBack}
-use Rattle.laws.proofs.Readable.{Every, GoodProp, blank, soleBlank, lone, Grade, Each, each-none, each-more, Item, item-name, item-special, item-inline, item-choice, item-sequence, item-empty, item-repeat, item-literal, item-set, item-any, item-class, InSlots, in-last, in-slot, Arm, arm-sequence, arm-item, Arms, arms-none, arms-more, Level, level-choice, level-arm, Readable, readable-up}
+use Rattle.laws.proofs.Readable.{GoodProp, blank, soleBlank, lone, Grade, Each, each-none, each-more, Item, item-name, item-special, item-inline, item-choice, item-sequence, item-empty, item-repeat, item-literal, item-set, item-any, item-class, InSlots, in-last, in-slot, Arm, arm-sequence, arm-item, Arms, arms-none, arms-more, Level, level-choice, level-arm, Readable, readable-up, item-stacked}
 use Rattle.laws.proofs.ReadBack.{Reads, bind-reads, pure-reads, choose-true, choose-false, here-reads, kind-reads, next-reads, eat-yes, eat-no, expect-reads, parseIdentifier-reads, Back, over, turn, loop-reads, comma-reads}
 use Rattle.laws.proofs.ReadBackProps.{if-true, if-false, props-reads}
 use Rattle.laws.proofs.Follows.{Stops, stop-brace, stop-paren, stop-comma, stop-angle, Ends, end-stop, end-bar, Follows, follow-end, AfterInner, after-name, follows-repeat, opens-goes, ends-over, stops-bar, begins-open, asItem, asArm, bracket-longer, longer, blank-writes, unbracketed, as-arm, item-opens, item-longer, slots-follow, level-begins}
 use Rattle.laws.proofs.ReadBackRepeats.{core, marks, under, marks-back, marks-after}
+use Rattle.laws.proofs.Every.{Every}
 
 -- ------------------------------------------------------------------ arguments
 
@@ -191,20 +193,6 @@ module _ (R : Grade) (below : Parser U (Expression U)) (below-reads : (e : Expre
       rw (u .written ks) (bind-reads _ (here-reads _) (bind-reads _ (inner-reads (u .item) (u .plain) _ (marks-after (marks e) ks f))
       (bind-reads _ (loop-reads (parseRepeat (stacked (core e))) ks _ (marks e) (marks-back (stacked (core e)) (marks e) [] ks enough (follows-repeat f))) (rw (u .whole) (pure-reads e ks)))))
 
-  item-low : {e : Expression U} → Item R e → stacked e ≤ repeats
-  unfolding stacked
-  item-low (item-name w n q b) = omega arith
-  item-low (item-special g r q) = omega arith
-  item-low (item-inline w n g r) = omega arith
-  item-low (item-choice r) = omega arith
-  item-low (item-sequence r b) = omega arith
-  item-low item-empty = omega arith
-  item-low (item-repeat i h) = h
-  item-low (item-literal s) = omega arith
-  item-low (item-set g) = omega arith
-  item-low item-any = omega arith
-  item-low item-class = omega arith
-
   -- what a sequence is read as, and its slots again
   unfoldable pub markersOf : List (ConflictMarker U) → List (SeqItem U) → List (SeqItem U)
   markersOf [] l = l
@@ -216,7 +204,7 @@ module _ (R : Grade) (below : Parser U (Expression U)) (below-reads : (e : Expre
 
   slots-markers : (ms ns : List (ConflictMarker U)) (l : List (SeqItem U)) → slots ms (markersOf ns l) ≡ slots (ms ++ ns) l
   unfolding slots markersOf
-  slots-markers ms [] l = rw (append-none ms)
+  slots-markers ms [] l = rw (append-nil ms)
   slots-markers ms (n ∷ ns) l = slots-markers (ms ++ n ∷ []) ns l ∙ rw (append-one ms n ns)
 
   slots-items : (s : Slots U) → slots [] (itemsOf s) ≡ s
@@ -242,7 +230,7 @@ module _ (R : Grade) (below : Parser U (Expression U)) (below-reads : (e : Expre
   unfolding parseItem itemBy
   item-reads before {e} i ks f =
       let o = opens-goes (item-opens R i ks) in
-      bind-reads _ (here-reads _) (bind-reads _ (kind-reads (asItem e ks) refl) (rw (o .no-marker, itemBy) (choose-false _ (o .no-end) (bind-reads _ (suffix-reads i (item-low i) ks f) (pure-reads _ ks)))))
+      bind-reads _ (here-reads _) (bind-reads _ (kind-reads (asItem e ks) refl) (rw (o .no-marker, itemBy) (choose-false _ (o .no-end) (bind-reads _ (suffix-reads i (item-stacked i) ks f) (pure-reads _ ks)))))
 
   markers-back : (rest : List Kind) (ms : List (ConflictMarker U)) (ks : List Kind) (l : List (SeqItem U)) → ((before : List (SeqItem U)) → Back (parseItem below) rest 1 before ks l)
       → (before : List (SeqItem U)) → Back (parseItem below) rest 1 before (each markerTokens ms ks) (markersOf ms l)

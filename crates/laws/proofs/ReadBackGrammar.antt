@@ -1,38 +1,37 @@
 -- The declarations of a good grammar, written one after another, are read back, and so is the grammar.
 -- Assumes nothing.
-use Prim.Native.Nat.{ℕ, _+_, _<_, _≤_}
-use Prim.Native.Char.{Char, code}
+use Prim.Native.Nat.{ℕ, _+_, _<_}
 use Prim.Native.String.{String}
 use native.Mathlib.Omega.{arith}
-use mathlib.Core.Path.{_≡_, refl, ap, sym, _∙_}
-use mathlib.Core.Bool.{Bool, true, false, _&&_, _||_, not}
-use mathlib.Core.List.{List, [], _∷_, _++_, map}
+use mathlib.Core.Path.{_≡_, refl, ap, _∙_}
+use mathlib.Core.Bool.{Bool, true, false, not}
+use mathlib.Core.List.{List, [], _∷_, _++_, map, append-nil}
 use mathlib.Core.Option.{Option, none, some}
 use lib.ListN.{length, length-append}
-use Rattle.basics.specs.Basics.{if_then_else_, letters, same, spells, concat, lastOf, firstOf, isEmpty, picked, orNot}
+use Rattle.basics.specs.Basics.{same, concat, lastOf, firstOf, isEmpty, picked}
+use Rattle.basics.proofs.Tests.{impossible, clash}
+use Rattle.basics.proofs.Lists.{picked-append}
 use Rattle.lexer.specs.Tokens.{Kind}
-use Rattle.lexer.specs.Escapes.{decodeString}
-use Rattle.tree.specs.Syntax.{Identifier, Expression, SpecializeKind, extend, specialize, RuleDeclaration, NamedNode, ContextDeclaration, ExternalTokenDeclaration, ExternalSpecializeDeclaration, ExternalPropSourceDeclaration, ExternalPropDeclaration, PrecDeclaration, ScopedSkipDeclaration, PrecKind, left, right, cut, PrecItem, Declaration, topRule, rule, tokens, localTokens, context, externalTokens, externalSpecializer, externalPropSource, precedences, mainSkip, scopedSkip, GrammarDeclaration, declarationKind, grouped, hasKind}
-use Rattle.notation.specs.Limits.{levels}
-use Rattle.notation.specs.Parser.{Parser, _>>=_, _>>_, pure, choose, here, kind, arrive, next, isEnd, isMark, nameIn, atIn, says, eat, eatAt, eatName, expect, expectName, expectString, parseIdentifier, untilStep, until, separate, commaOrNot, nothing}
-use Rattle.notation.specs.Expressions.{parseBracedExpression, choiceAt}
+use Rattle.tree.specs.Syntax.{Identifier, Expression, SpecializeKind, extend, specialize, RuleDeclaration, NamedNode, ContextDeclaration, ExternalTokenDeclaration, ExternalSpecializeDeclaration, ExternalPropSourceDeclaration, ExternalPropDeclaration, PrecDeclaration, ScopedSkipDeclaration, PrecKind, left, right, cut, PrecItem, Declaration, topRule, rule, tokens, localTokens, context, externalTokens, externalSpecializer, externalPropSource, precedences, mainSkip, scopedSkip, GrammarDeclaration, grouped}
+use Rattle.notation.specs.Parser.{Parser, _>>=_, _>>_, pure, kind, isEnd, isMark, atIn, says, expectString, untilStep, nothing}
 use Rattle.notation.specs.Members.{Member, declaration, dialects, externalProp, detectDelim, declared, declaredDialects, declaredProp, detects}
-use Rattle.notation.specs.Declarations.{parseRule, parseSource, parseExternalTokens, parseExternalSpecializer, parseExternalPropSource, parseExternalProp, externalBy, parseExternalDeclaration, parsePrecKind, parsePrecItem, parsePrecedence, seen, parseContextDeclaration, parseSkipDeclaration, topBy, parseDirective, declarationBy, parseDeclaration, hasTop, grammarOf, parse}
+use Rattle.notation.specs.Declarations.{parseSource, parseExternalTokens, parseExternalSpecializer, parseExternalPropSource, parseExternalProp, externalBy, parseExternalDeclaration, parsePrecKind, parsePrecItem, parsePrecedence, seen, parseContextDeclaration, parseSkipDeclaration, topBy, parseDirective, declarationBy, parseDeclaration, hasTop, grammarOf, parse}
 use Rattle.spelling.specs.Spelling.{quoted}
-use Rattle.spelling.specs.NormalText.{each, eachAfter, commas, mark, at, word, string, identifier, specializeWord, precTokens, fromTokens, expressionTokens, bodyTokens, ruleTokens, topRuleTokens, tokenPrecTokens, tokenConflictTokens, literalTokens, fallbackTokens, precItemTokens, externalSetTokens, declarationTokens, externalPropTokens}
+use Rattle.spelling.specs.NormalText.{each, commas, mark, at, word, string, identifier, specializeWord, precTokens, fromTokens, bodyTokens, topRuleTokens, precItemTokens, externalSetTokens, declarationTokens, externalPropTokens}
 use Rattle.spelling.proofs.Back.{decode-back}
-use Rattle.laws.proofs.Lists.{clash, append-none, append-one}
+use Rattle.laws.proofs.Lists.{append-one}
 use Rattle.laws.proofs.Fine.{U}
-use Rattle.laws.proofs.Readable.{Every, every-none, every-more, GoodName}
+use Rattle.laws.proofs.Readable.{GoodName}
 use Rattle.laws.proofs.MeetsExpressions.{GoodRule}
 use Rattle.laws.proofs.Appends.{Adds, declaration-adds, dialects-adds, externalProp-adds}
-use Rattle.laws.proofs.Good.{Outer, GoodNode, GoodPrecItem, GoodSource, GoodExternalProp, GoodDeclaration, good-top, good-rule, good-tokens, good-local, good-context, good-external, good-specializer, good-prop-source, good-precedences, good-skip, good-scoped, Singles, GoodGrammar}
+use Rattle.laws.proofs.Good.{Outer, GoodNode, GoodPrecItem, GoodDeclaration, good-top, good-rule, good-tokens, good-local, good-context, good-external, good-specializer, good-prop-source, good-precedences, good-skip, good-scoped, Singles, GoodGrammar}
 use Rattle.laws.proofs.Groups.{Fresh, singles-fresh}
-use Rattle.laws.proofs.ReadBack.{laid, Reads, bind-reads, pure-reads, choose-true, choose-false, here-reads, kind-reads, arrive-reads, next-reads, eatName-yes, eatAt-yes, eatAt-no, expect-reads, expectName-reads, expectString-reads, parseIdentifier-reads, Back, over, turn, loop-reads}
-use Rattle.laws.proofs.Follows.{longer, Stops, stop-brace, stop-paren, stop-comma, stop-angle}
-use Rattle.laws.proofs.ReadBackRules.{outer-braced, names-reads, names-longer, rule-reads, rule-longer, picked-append, picked-all, picked-no, braces-reads}
+use Rattle.laws.proofs.ReadBack.{Reads, bind-reads, pure-reads, choose-true, choose-false, here-reads, kind-reads, arrive-reads, next-reads, eatName-yes, eatAt-yes, eatAt-no, expectName-reads, expectString-reads, parseIdentifier-reads, Back, over, turn, loop-reads}
+use Rattle.laws.proofs.Follows.{Stops, stop-brace, stop-paren, stop-comma, stop-angle}
+use Rattle.laws.proofs.ReadBackRules.{outer-braced, names-reads, rule-reads, picked-all, picked-no, braces-reads}
 use Rattle.laws.proofs.ReadBackTokens.{tokens-reads, local-tokens-reads, apart}
-use Rattle.laws.proofs.ReadBackBlocks.{skip-block, skip-tops, skip-rules, skipMembers, GoodExternalMember, externalMembers, external-every, nodes-every, external-nodes, external-names, external-set}
+use Rattle.laws.proofs.ReadBackBlocks.{skip-block, skip-tops, skip-rules, GoodExternalMember, externalMembers, external-every, nodes-every, external-nodes, external-names, external-set}
+use Rattle.laws.proofs.Every.{Every, every-none, every-more}
 
 -- ------------------------------------------------------------------ sources and precedences
 
@@ -102,7 +101,7 @@ specializer-reads x (good-specializer r g a) before ks = go (x .kind) refl
 
 external-all : (xs : List (NamedNode U)) (ns : List (Identifier U)) → Every GoodNode xs → Every GoodName ns → Every (GoodExternalMember true) (externalMembers xs ns)
 external-all xs [] a b = nodes-every true xs a
-external-all xs (n ∷ ns) a b = external-every true xs (n ∷ ns) (λ e. let z : _≡_ {A = ℕ} 0 1 = cc in absurd (omega arith)) refl a b
+external-all xs (n ∷ ns) a b = external-every true xs (n ∷ ns) (λ e. impossible (cc)) refl a b
 
 top-rule-reads : {r : RuleDeclaration U} → GoodRule Outer r → (before : List (Member U)) (ks : List Kind) → Reads (parseDeclaration before) (topRuleTokens r ks) (declaration (topRule r)) ks
 unfolding parseDeclaration declarationBy parseDirective topBy same
@@ -314,10 +313,10 @@ module _ (ds : List (Declaration U)) (ns : List (Identifier U)) (xs : List (Exte
   all-declared = split declared ∙ rw (picked-all declared declaration (λ x. refl) ds, picked-no declared externalProp (λ x. refl) xs) (go ns b)
     where
       go : (ns : List (Identifier U)) (b : Bool) → ds ++ (picked declared (dialectMembers ns) ++ ([] ++ picked declared (detectMembers b))) ≡ ds
-      go [] true = append-none ds
-      go [] false = append-none ds
-      go (m ∷ ms) true = append-none ds
-      go (m ∷ ms) false = append-none ds
+      go [] true = append-nil ds
+      go [] false = append-nil ds
+      go (m ∷ ms) true = append-nil ds
+      go (m ∷ ms) false = append-nil ds
 
   all-lists : picked declaredDialects all ≡ picked declaredDialects (dialectMembers ns)
   unfolding picked
@@ -335,17 +334,17 @@ module _ (ds : List (Declaration U)) (ns : List (Identifier U)) (xs : List (Exte
     where
       go : (ns : List (Identifier U)) → concat (lastOf (picked declaredDialects (dialectMembers ns))) ≡ ns
       go [] = refl
-      go (m ∷ ms) = append-none (m ∷ ms)
+      go (m ∷ ms) = append-nil (m ∷ ms)
 
   all-props : picked declaredProp all ≡ xs
   unfolding picked
   all-props = split declaredProp ∙ rw (picked-no declaredProp declaration (λ x. refl) ds, picked-all declaredProp externalProp (λ x. refl) xs) (go ns b)
     where
       go : (ns : List (Identifier U)) (b : Bool) → picked declaredProp (dialectMembers ns) ++ (xs ++ picked declaredProp (detectMembers b)) ≡ xs
-      go [] true = append-none xs
-      go [] false = append-none xs
-      go (m ∷ ms) true = append-none xs
-      go (m ∷ ms) false = append-none xs
+      go [] true = append-nil xs
+      go [] false = append-nil xs
+      go (m ∷ ms) true = append-nil xs
+      go (m ∷ ms) false = append-nil xs
 
   all-detects : not (isEmpty (picked detects all)) ≡ b
   unfolding picked

@@ -1,7 +1,7 @@
 -- Props, written, are read back.
 -- Assumes nothing.
 use Prim.Native.Nat.{ℕ, _+_, _<_, _≤_}
-use Prim.Native.Char.{Char, code}
+use Prim.Native.Char.{code}
 use native.Mathlib.Omega.{arith}
 use mathlib.Core.Path.{_≡_, refl}
 use mathlib.Core.Bool.{Bool, true, false}
@@ -16,8 +16,9 @@ use Rattle.notation.specs.Expressions.{partBy, parsePart, propNamed, propBy, pa
 use Rattle.spelling.specs.NormalText.{each, eachAfter, mark, propName, partTokens, valueTokens, propTokens, propsTokens}
 use Rattle.spelling.proofs.Back.{decode-back}
 use Rattle.laws.proofs.Fine.{U}
-use Rattle.laws.proofs.Readable.{Every, GoodProp}
+use Rattle.laws.proofs.Readable.{GoodProp}
 use Rattle.laws.proofs.ReadBack.{Reads, bind-reads, pure-reads, choose-true, choose-false, here-reads, kind-reads, next-reads, eat-yes, eat-no, expect-reads, parseIdentifier-reads, Back, over, turn, loop-reads, Between, at-comma, at-close, commas-reads, comma-reads}
+use Rattle.laws.proofs.Every.{Every}
 
 pub if-true : {A : Type 0} {b : Bool} {p : Parser U A} (q : Parser U A) {ks ls : List Kind} {a : A} → b ≡ true → Reads p ks a ls → Reads (if b then p else q) ks a ls
 if-true q e h = rw e h
@@ -123,8 +124,3 @@ props-reads [] g ks h = bind-reads _ (eat-no "[" ks h) (choose-false _ refl (pur
 props-reads (x ∷ xs) g ks h =
     bind-reads _ (eat-yes "[" _ _ refl) (choose-true _ refl
     (commas-reads "]" refl GoodProp propTokens (λ _. parseProp) (λ x g ks. prop-begins x ks) prop-longer comma comma-reads refl (λ before x g ks b. prop-reads x ks (between-prop b)) (x ∷ xs) g ks))
-
--- what props and then ks begin with
-pub props-first : (c : Char) (ps : List (Prop U)) (ks : List Kind) → isMark c (some (Kind.mark (code "["))) ≡ false → isMark c (firstOf ks) ≡ false → isMark c (firstOf (propsTokens ps ks)) ≡ false
-props-first c [] ks h g = g
-props-first c (x ∷ xs) ks h g = h

@@ -7,7 +7,7 @@ use mathlib.Core.Bool.{false}
 use mathlib.Core.List.{List, [], _∷_, _++_, map}
 use mathlib.Core.Option.{Option, none, some}
 use lib.ListN.{length}
-use Rattle.basics.specs.Basics.{firstOf, picked, orNot}
+use Rattle.basics.specs.Basics.{firstOf, picked}
 use Rattle.lexer.specs.Tokens.{Kind}
 use Rattle.lexer.specs.Escapes.{decodeString}
 use Rattle.tree.specs.Syntax.{Identifier, Prop, Expression, RuleDeclaration, TokenReference, referred, TokenPrecDeclaration, TokenConflictDeclaration, LiteralDeclaration, NamedNode, left, right, startOf}
@@ -19,13 +19,14 @@ use Rattle.spelling.specs.Spelling.{quoted}
 use Rattle.spelling.specs.NormalText.{each, eachAfter, commas, bracketed, mark, identifier, expressionTokens, bodyTokens, ruleTokens, referenceTokens, tokenPrecTokens, tokenConflictTokens, literalTokens, namedNodeTokens}
 use Rattle.spelling.proofs.Back.{decode-back}
 use Rattle.laws.proofs.Fine.{U}
-use Rattle.laws.proofs.Readable.{Every, every-none, every-more, GoodName, readable-up}
+use Rattle.laws.proofs.Readable.{GoodName, readable-up}
 use Rattle.laws.proofs.MeetsExpressions.{GoodRule}
 use Rattle.laws.proofs.Good.{Outer, GoodReference, GoodTokenPrec, GoodTokenConflict, GoodLiteral, GoodNode}
 use Rattle.laws.proofs.ReadBack.{Reads, bind-reads, pure-reads, choose-true, choose-false, here-reads, next-reads, eat-yes, eat-no, expect-reads, parseIdentifier-reads, Between, at-comma, at-close, commas-reads, comma-reads, commaOrNot-reads}
 use Rattle.laws.proofs.ReadBackProps.{props-longer, props-reads}
 use Rattle.laws.proofs.Follows.{longer, arguments-longer, Stops, stop-brace, stop-comma, end-stop, follow-end, inner-follow, asItem}
 use Rattle.laws.proofs.ReadBackExpressions.{braced-reads, inner-reads, choiceAt-reads}
+use Rattle.laws.proofs.Every.{Every}
 
 -- ------------------------------------------------------------------ rules
 
@@ -158,15 +159,6 @@ module _ {B : Type 0} (write : B → List Kind → List Kind) where
   each-map c (x ∷ xs) ks = ap (write (c x)) (each-map c xs ks)
 
 module _ {A B : Type 0} (p : B → Option A) where
-  pub picked-append : (xs ys : List B) → picked p (xs ++ ys) ≡ picked p xs ++ picked p ys
-  unfolding picked
-  picked-append [] ys = refl
-  picked-append (x ∷ xs) ys = rw (picked-append xs ys) (go (p x))
-    where
-      go : (o : Option A) → orNot o (picked p xs ++ picked p ys) ≡ orNot o (picked p xs) ++ picked p ys
-      go none = refl
-      go (some a) = refl
-
   pub picked-all : (c : A → B) → ((a : A) → p (c a) ≡ some a) → (xs : List A) → picked p (map c xs) ≡ xs
   unfolding picked
   picked-all c e [] = refl
@@ -176,11 +168,3 @@ module _ {A B : Type 0} (p : B → Option A) where
   unfolding picked
   picked-no c e [] = refl
   picked-no c e (x ∷ xs) = rw (e x) (picked-no c e xs)
-
-pub map-every : {A B : Type 0} {G : A → Type 0} {H : B → Type 0} (c : A → B) → ((a : A) → G a → H (c a)) → {xs : List A} → Every G xs → Every H (map c xs)
-map-every c f every-none = every-none
-map-every c f (every-more {x} g q) = every-more (f x g) (map-every c f q)
-
-pub join-every : {A : Type 0} {G : A → Type 0} {xs ys : List A} → Every G xs → Every G ys → Every G (xs ++ ys)
-join-every every-none h = h
-join-every (every-more g e) h = every-more g (join-every e h)

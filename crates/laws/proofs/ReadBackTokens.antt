@@ -5,24 +5,25 @@ use Prim.Native.Char.{Char}
 use native.Mathlib.Omega.{arith}
 use mathlib.Core.Path.{_≡_, refl, ap, _∙_}
 use mathlib.Core.Bool.{false}
-use mathlib.Core.List.{List, [], _∷_, _++_, map}
+use mathlib.Core.List.{List, [], _∷_, _++_, map, append-nil}
 use mathlib.Core.Option.{Option, none, some}
 use lib.ListN.{length}
 use Rattle.basics.specs.Basics.{same, firstOf, isEmpty, picked}
+use Rattle.basics.proofs.Lists.{picked-append}
 use Rattle.lexer.specs.Tokens.{Kind}
 use Rattle.tree.specs.Syntax.{RuleDeclaration, TokenReference, TokenPrecDeclaration, TokenConflictDeclaration, LiteralDeclaration, NamedNode, TokenDeclaration, LocalTokenDeclaration, left, right, Declaration}
 use Rattle.notation.specs.Parser.{Parser, _>>_, isMark, eat, expect, untilStep, until, separate, nothing}
 use Rattle.notation.specs.Members.{TokenMember, tokenPrecedence, tokenConflict, tokenRule, tokenLiteral, LocalMember, localPrecedence, localRule, localFallback}
 use Rattle.notation.specs.Declarations.{tokenMemberBy, parseTokenMember, parseTokens, parseLocalMember, parseLocalTokens}
 use Rattle.spelling.specs.NormalText.{each, eachAfter, commas, mark, at, ruleTokens, referenceTokens, tokenPrecTokens, tokenConflictTokens, literalTokens, namedNodeTokens, fallbackTokens, declarationTokens}
-use Rattle.laws.proofs.Lists.{append-none, append-one}
+use Rattle.laws.proofs.Lists.{append-one}
 use Rattle.laws.proofs.Fine.{U}
-use Rattle.laws.proofs.Readable.{Every, every-none, every-more}
 use Rattle.laws.proofs.MeetsExpressions.{Found, found-none, found-some, GoodRule}
 use Rattle.laws.proofs.Good.{Outer, GoodTokenPrec, GoodTokenConflict, GoodLiteral, GoodNode}
 use Rattle.laws.proofs.ReadBack.{Reads, bind-reads, pure-reads, choose-true, choose-false, here-reads, kind-reads, next-reads, eat-yes, eat-no, eatAt-yes, eatAt-no, expect-reads, Back, over, turn, loop-reads, each-reads}
 use Rattle.laws.proofs.ReadBackProps.{props-longer, after-longer}
-use Rattle.laws.proofs.ReadBackRules.{rule-reads, rule-longer, reference-longer, precedence-reads, conflict-reads, literal-reads, node-reads, node-longer, each-append, each-map, picked-append, picked-all, picked-no, map-every, join-every}
+use Rattle.laws.proofs.ReadBackRules.{rule-reads, rule-longer, reference-longer, precedence-reads, conflict-reads, literal-reads, node-reads, node-longer, each-append, each-map, picked-all, picked-no}
+use Rattle.laws.proofs.Every.{Every, every-none, every-more, every-map, every-append}
 
 -- ------------------------------------------------------------------ `@tokens`
 
@@ -104,7 +105,7 @@ module _ (ps : List (TokenPrecDeclaration U)) (cs : List (TokenConflictDeclarati
         picked-no tokenPrecedence TokenMember.conflict (λ x. refl) cs,
         picked-no tokenPrecedence TokenMember.rule (λ x. refl) rs,
         picked-no tokenPrecedence TokenMember.literal (λ x. refl) ls,
-        append-none ps,
+        append-nil ps,
       )
 
   token-conflicts : picked tokenConflict tokenMembers ≡ cs
@@ -115,7 +116,7 @@ module _ (ps : List (TokenPrecDeclaration U)) (cs : List (TokenConflictDeclarati
         picked-all tokenConflict TokenMember.conflict (λ x. refl) cs,
         picked-no tokenConflict TokenMember.rule (λ x. refl) rs,
         picked-no tokenConflict TokenMember.literal (λ x. refl) ls,
-        append-none cs,
+        append-nil cs,
       )
 
   token-rules : picked tokenRule tokenMembers ≡ rs
@@ -126,7 +127,7 @@ module _ (ps : List (TokenPrecDeclaration U)) (cs : List (TokenConflictDeclarati
         picked-no tokenRule TokenMember.conflict (λ x. refl) cs,
         picked-all tokenRule TokenMember.rule (λ x. refl) rs,
         picked-no tokenRule TokenMember.literal (λ x. refl) ls,
-        append-none rs,
+        append-nil rs,
       )
 
   token-literals : picked tokenLiteral tokenMembers ≡ ls
@@ -141,7 +142,7 @@ module _ (ps : List (TokenPrecDeclaration U)) (cs : List (TokenConflictDeclarati
 
   token-every : Every GoodTokenPrec ps → Every GoodTokenConflict cs → Every (GoodRule Outer) rs → Every GoodLiteral ls → Every GoodTokenMember tokenMembers
   token-every a b c d =
-      join-every (map-every TokenMember.precedence (λ x. good-prec) a) (join-every (map-every TokenMember.conflict (λ x. good-conflict) b) (join-every (map-every TokenMember.rule (λ x. good-a-rule) c) (map-every TokenMember.literal (λ x. good-literal) d)))
+      every-append (every-map TokenMember.precedence (λ x. good-prec) a) (every-append (every-map TokenMember.conflict (λ x. good-conflict) b) (every-append (every-map TokenMember.rule (λ x. good-a-rule) c) (every-map TokenMember.literal (λ x. good-literal) d)))
 
 pub tokens-reads : (x : TokenDeclaration U) → Every GoodTokenPrec (x .precedences) → Every GoodTokenConflict (x .conflicts) → Every (GoodRule Outer) (x .rules) → Every GoodLiteral (x .literals) → (ks : List Kind)
     → Reads parseTokens (declarationTokens (Declaration.tokens x) ks) x ks
@@ -197,7 +198,7 @@ local-close before ks = bind-reads _ (eat-yes "}" _ ks refl) (choose-true _ refl
 plain-back : (xs : List (LocalMember U)) → Every PlainMember xs → (before : List (LocalMember U)) (rest ks : List Kind) (ys : List (LocalMember U)) → Back localStep rest 1 (before ++ xs) ks ys
     → Back localStep rest 1 before (each localMemberTokens xs ks) (xs ++ ys)
 unfolding each
-plain-back [] every-none before rest ks ys b = rw (append-none before) at b
+plain-back [] every-none before rest ks ys b = rw (append-nil before) at b
 plain-back (x ∷ xs) (every-more g q) before rest ks ys b =
     let ls = each localMemberTokens xs ks in
     let l = plain-longer g ls in
@@ -217,7 +218,7 @@ module _ (ps : List (TokenPrecDeclaration U)) (rs : List (RuleDeclaration U)) wh
       )
 
   plain-every : Every GoodTokenPrec ps → Every (GoodRule Outer) rs → Every PlainMember plainMembers
-  plain-every a b = join-every (map-every LocalMember.precedence (λ x. plain-prec) a) (map-every LocalMember.rule (λ x. plain-rule) b)
+  plain-every a b = every-append (every-map LocalMember.precedence (λ x. plain-prec) a) (every-map LocalMember.rule (λ x. plain-rule) b)
 
   plain-fallback : picked localFallback plainMembers ≡ []
   plain-fallback =
@@ -234,19 +235,19 @@ module _ (ps : List (TokenPrecDeclaration U)) (rs : List (RuleDeclaration U)) wh
 
   pub local-precs : (o : Option (NamedNode U)) → picked localPrecedence (plainMembers ++ fallbackMembers o) ≡ ps
   unfolding picked
-  local-precs o = local-split localPrecedence o ∙ rw (picked-all localPrecedence LocalMember.precedence (λ x. refl) ps, picked-no localPrecedence LocalMember.rule (λ x. refl) rs, append-none ps) (go o)
+  local-precs o = local-split localPrecedence o ∙ rw (picked-all localPrecedence LocalMember.precedence (λ x. refl) ps, picked-no localPrecedence LocalMember.rule (λ x. refl) rs, append-nil ps) (go o)
     where
       go : (o : Option (NamedNode U)) → ps ++ picked localPrecedence (fallbackMembers o) ≡ ps
-      go none = append-none ps
-      go (some x) = append-none ps
+      go none = append-nil ps
+      go (some x) = append-nil ps
 
   local-rules : (o : Option (NamedNode U)) → picked localRule (plainMembers ++ fallbackMembers o) ≡ rs
   unfolding picked
   local-rules o = local-split localRule o ∙ rw (picked-no localRule LocalMember.precedence (λ x. refl) ps, picked-all localRule LocalMember.rule (λ x. refl) rs) (go o)
     where
       go : (o : Option (NamedNode U)) → rs ++ picked localRule (fallbackMembers o) ≡ rs
-      go none = append-none rs
-      go (some x) = append-none rs
+      go none = append-nil rs
+      go (some x) = append-nil rs
 
   local-fallbacks : (o : Option (NamedNode U)) → picked localFallback (plainMembers ++ fallbackMembers o) ≡ picked localFallback (fallbackMembers o)
   local-fallbacks o = local-split localFallback o ∙ rw (picked-no localFallback LocalMember.precedence (λ x. refl) ps, picked-no localFallback LocalMember.rule (λ x. refl) rs)

@@ -1,10 +1,10 @@
 -- The trees that reading gives, without starts. For expressions level by level: R holds of those that are read one level further in.
 -- Assumes nothing.
-use Prim.Native.Nat.{ℕ, zero, suc, _<_}
-use mathlib.Core.Path.{_≡_, refl}
-use mathlib.Core.Bool.{Bool, true, false, _||_}
+use native.Mathlib.Omega.{arith}
+use Prim.Native.Nat.{ℕ, zero, suc, _<_, _≤_}
+use mathlib.Core.Path.{_≡_}
+use mathlib.Core.Bool.{Bool, true, false}
 use mathlib.Core.List.{List, [], _∷_}
-use mathlib.Core.Option.{Option, none, some}
 use Rattle.basics.specs.Basics.{spells}
 use Rattle.characters.specs.Spans.{Span}
 use Rattle.tree.specs.Syntax.{Identifier, PropPart, value, Prop, ConflictMarker, SpecializeKind, RepeatKind, CharClass, Expression, special, inline, choice, sequence, empty, repeat, set, any, class, Expressions, []ᴱ, _∷ᴱ_, Slots, last, slot}
@@ -13,10 +13,7 @@ use Rattle.notation.specs.Expressions.{stacked, isEmptyArm}
 use Rattle.spelling.specs.NormalText.{isChoice, isSequence}
 use Rattle.characters.proofs.Chars.{Scalars}
 use Rattle.laws.proofs.Fine.{U, Word, ReadBack}
-
-pub data Every {A : Type 0} (G : A → Type 0) : List A → Type 0 where
-  every-none : Every G []
-  every-more : {x : A} {xs : List A} → G x → Every G xs → Every G (x ∷ xs)
+use Rattle.laws.proofs.Every.{Every}
 
 pub record GoodName (n : Identifier U) : Type 0 where
   pub word : Word (n .name)
@@ -100,6 +97,20 @@ module _ (R : Grade) where
   pub data Level : Expression U → Type 0 where
     level-choice : {p : U} {e e′ : Expression U} {es : Expressions U} → Arms (e ∷ᴱ (e′ ∷ᴱ es)) → Level (choice p (e ∷ᴱ (e′ ∷ᴱ es)))
     level-arm : {e : Expression U} → Arm e → isChoice e ≡ false → Level e
+
+pub item-stacked : {R : Grade} {e : Expression U} → Item R e → stacked e ≤ repeats
+unfolding stacked
+item-stacked (item-name w n q b) = omega arith
+item-stacked (item-special g r q) = omega arith
+item-stacked (item-inline w n g r) = omega arith
+item-stacked (item-choice r) = omega arith
+item-stacked (item-sequence r b) = omega arith
+item-stacked item-empty = omega arith
+item-stacked (item-repeat i h) = h
+item-stacked (item-literal s) = omega arith
+item-stacked (item-set g) = omega arith
+item-stacked item-any = omega arith
+item-stacked item-class = omega arith
 
 module _ {R R′ : Grade} (up : (e : Expression U) → R e → R′ e) where
   each-up : {es : Expressions U} → Each R es → Each R′ es

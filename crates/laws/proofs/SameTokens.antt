@@ -2,15 +2,16 @@
 -- Assumes nothing.
 use Prim.Native.Nat.{ℕ}
 use Prim.Native.Char.{Char}
-use mathlib.Core.Path.{_≡_, refl, ap, sym, _∙_}
+use mathlib.Core.Path.{_≡_, refl, ap, _∙_}
 use mathlib.Core.Bool.{Bool, true, false, _||_}
-use mathlib.Core.List.{List, [], _∷_, _++_, map}
+use mathlib.Core.List.{List, [], _∷_, map}
 use mathlib.Core.Option.{Option, none, some}
 use Rattle.lexer.specs.Tokens.{Kind}
-use Rattle.tree.specs.Syntax.{Identifier, PropPart, value, Prop, ConflictMarker, Expression, special, inline, choice, sequence, empty, repeat, set, any, class, Expressions, []ᴱ, _∷ᴱ_, Slots, last, slot, RuleDeclaration, TokenReference, referred, TokenPrecDeclaration, TokenConflictDeclaration, LiteralDeclaration, NamedNode, ExternalPropDeclaration, PrecKind, PrecItem, Declaration, topRule, rule, tokens, localTokens, context, externalTokens, externalSpecializer, externalPropSource, precedences, mainSkip, scopedSkip, GrammarDeclaration}
+use Rattle.tree.specs.Syntax.{Identifier, PropPart, value, Prop, ConflictMarker, Expression, special, inline, choice, sequence, empty, repeat, set, any, class, Expressions, []ᴱ, _∷ᴱ_, Slots, last, slot, RuleDeclaration, TokenReference, TokenPrecDeclaration, TokenConflictDeclaration, LiteralDeclaration, NamedNode, ExternalPropDeclaration, PrecItem, Declaration, topRule, rule, tokens, localTokens, context, externalTokens, externalSpecializer, externalPropSource, precedences, mainSkip, scopedSkip, GrammarDeclaration}
 use Rattle.characters.specs.Utf8.{encodeAll}
-use Rattle.spelling.specs.Spelling.{quoted, hexFrom, codeText, spanText, spansText, spell, spaced}
-use Rattle.spelling.specs.NormalText.{each, eachAfter, commas, bracketed, mark, at, word, string, identifier, repeatSign, specializeWord, precTokens, fromTokens, detectLines, bracketIf, partTokens, valueTokens, propTokens, propsTokens, isChoice, isSequence, markerTokens, expressionTokens, argumentsTokens, moreArguments, armsTokens, moreArms, slotsTokens, bodyTokens, ruleTokens, topRuleTokens, referenceTokens, tokenPrecTokens, tokenConflictTokens, literalTokens, namedNodeTokens, fallbackTokens, precItemTokens, conflictsTokens, externalSetTokens, declarationTokens, dialectsLines, externalPropTokens, lines, linesText, normalText}
+use Rattle.spelling.specs.Spelling.{spell, spaced}
+use Rattle.spelling.specs.NormalText.{each, eachAfter, commas, bracketed, mark, at, identifier, fromTokens, bracketIf, partTokens, valueTokens, propTokens, propsTokens, isChoice, isSequence, markerTokens, expressionTokens, argumentsTokens, moreArguments, armsTokens, moreArms, slotsTokens, bodyTokens, ruleTokens, topRuleTokens, referenceTokens, tokenPrecTokens, tokenConflictTokens, literalTokens, namedNodeTokens, fallbackTokens, precItemTokens, conflictsTokens, externalSetTokens, declarationTokens, dialectsLines, externalPropTokens, lines, linesText, normalText}
+use Rattle.spelling.proofs.Lines.{lines-of}
 use Rattle.laws.specs.Starts.{onIdentifier, onPart, onProp, onMarker, onExpression, onExpressions, onSlots, onRule, onReference, onTokenPrec, onTokenConflict, onLiteral, onNamedNode, onFallback, onPrecItem, onExternalProp, onDeclaration, onGrammar}
 
 -- f and g put the same tokens in front of whatever follows
@@ -234,18 +235,12 @@ module _ {S T : Type 0} (f : S → T) where
 
 -- ------------------------------------------------------------------ the text
 
--- the lines of a grammar
-pub linesOf : {S : Type 0} (g : GrammarDeclaration S)
-    → lines g ≡ map (λ d. declarationTokens d []) (g .declarations) ++ dialectsLines (g .dialects) ++ map (λ x. externalPropTokens x []) (g .externalProps) ++ detectLines (g .autoDelimiters)
-unfolding lines quoted hexFrom codeText spanText spansText each eachAfter expressionTokens declarationTokens externalPropTokens
-linesOf g = refl
-
 pub lines-same : {S T : Type 0} (f : S → T) (g : GrammarDeclaration S) → lines (onGrammar f g) ≡ lines g
 unfolding onGrammar
 lines-same f g =
     rw (
-      linesOf (onGrammar f g),
-      linesOf g,
+      lines-of (onGrammar f g),
+      lines-of g,
       map-same f (onDeclaration f) declarationTokens declarationTokens (declaration-same f) (g .declarations),
       dialects-same f (g .dialects),
       map-same f (onExternalProp f) externalPropTokens externalPropTokens (external-prop-same f) (g .externalProps),

@@ -2,41 +2,29 @@
 -- Assumes nothing.
 use Prim.Native.Nat.{ℕ, zero, suc, _+_, _-_, _<_, _≤_}
 use native.Mathlib.Omega.{arith}
-use native.Mathlib.Decide.{decLe}
 use borrow.Author.Tests.{leb-true, leb-false, lt-leb}
 use mathlib.Core.Path.{_≡_, refl, ap, sym, _∙_}
-use mathlib.Core.Bool.{Bool, true, false, _&&_, _||_, not}
+use mathlib.Core.Bool.{Bool, true, false, _&&_, not, and-comm}
 use mathlib.Core.List.{List, [], _∷_}
 use mathlib.Core.Option.{Option, none, some}
 use lib.Dec.{leb, ltb}
 use Rattle.basics.specs.Basics.{if_then_else_}
-use Rattle.basics.proofs.Tests.{cases}
+use Rattle.basics.proofs.Tests.{cases, impossible, both-false}
 use Rattle.error.specs.Causes.{overlappingSpan}
 use Rattle.characters.specs.Spans.{Span, _upto_}
 use Rattle.characters.specs.Utf8.{isScalar}
 use Rattle.lexer.specs.Escapes.{Atom}
-use Rattle.lexer.specs.Sets.{dash, rangeEnd, spanBy, written, reversed, overlap, overlapsOne, faultFrom, fault, insert, sorted}
+use Rattle.lexer.specs.Sets.{dash, rangeEnd, spanBy, written, overlap, overlapsOne, faultFrom, fault, insert, sorted}
 use Rattle.lexer.specs.Promise.{Ascending, a-none, a-more, later}
 use Rattle.lexer.proofs.Ordered.{apart-before, insert-here, insert-on, insert-none, met-insert, insert-ascending}
 use Rattle.lexer.proofs.Faults.{fine, fault-none, fault-on, fault-block}
 use Rattle.spelling.proofs.Back.{Spelled, no-spans, one-span}
-use Rattle.laws.proofs.Lists.{clash}
 use Rattle.laws.proofs.Fine.{ReadBack}
 
 -- ------------------------------------------------------------------ what nothing stops has no overlap
 
-or-false : (b c : Bool) → (b || c) ≡ false → (b ≡ false) × (c ≡ false)
-or-false true c h = clash true refl h
-or-false false c h = (refl, h)
-
 overlap-swap : (s t : Span) → overlap s t ≡ overlap t s
-overlap-swap s t = go (ltb (s .first) (t .past)) (ltb (t .first) (s .past))
-  where
-    go : (a b : Bool) → (a && b) ≡ (b && a)
-    go true true = refl
-    go true false = refl
-    go false true = refl
-    go false false = refl
+overlap-swap s t = and-comm (ltb (s .first) (t .past)) (ltb (t .first) (s .past))
 
 -- s is one of the spans
 data Among (s : Span) : List Span → Type 0 where
@@ -45,8 +33,8 @@ data Among (s : Span) : List Span → Type 0 where
 
 unmet-one : (t s : Span) {ss : List Span} → Among s ss → overlapsOne t ss ≡ false → overlap t s ≡ false
 unfolding overlapsOne
-unmet-one t s (among-first {ss}) h = or-false (overlap t s) (overlapsOne t ss) h .0
-unmet-one t s (among-later {t = u} {ss} a) h = unmet-one t s a (or-false (overlap t u) (overlapsOne t ss) h .1)
+unmet-one t s (among-first {ss}) h = both-false (overlap t s) (overlapsOne t ss) h .0
+unmet-one t s (among-later {t = u} {ss} a) h = unmet-one t s a (both-false (overlap t u) (overlapsOne t ss) h .1)
 
 -- a span before meets none of those after it
 unmet-after : (s : Span) (ss before : List Span) → Among s before → faultFrom before ss ≡ none → overlapsOne s ss ≡ false
@@ -61,7 +49,7 @@ alone : (before ss : List Span) → faultFrom before ss ≡ none → fault ss �
 alone before ss h = go (later before ss) (sym (fault-block before ss) ∙ h)
   where
     go : (b : Bool) → (if b then some overlappingSpan else fault ss) ≡ none → fault ss ≡ none
-    go true e = let z : _≡_ {A = ℕ} 0 1 = cc in absurd (omega arith)
+    go true e = impossible (cc)
     go false e = e
 
 met-more : (s t : Span) (ss us : List Span) → overlapsOne s ss ≡ overlapsOne s us → overlapsOne s (t ∷ ss) ≡ overlapsOne s (t ∷ us)
@@ -137,13 +125,13 @@ less-one n = omega arith
 
 range-scalar : (a : Atom) {l : List Atom} → ScalarAtoms l → (z : ℕ) → rangeEnd a l ≡ some z → isScalar z ≡ true
 unfolding rangeEnd
-range-scalar a no-atoms z e = let w : _≡_ {A = ℕ} 0 1 = cc in absurd (omega arith)
-range-scalar a (more-atoms s no-atoms) z e = let w : _≡_ {A = ℕ} 0 1 = cc in absurd (omega arith)
+range-scalar a no-atoms z e = impossible (cc)
+range-scalar a (more-atoms s no-atoms) z e = impossible (cc)
 range-scalar a (more-atoms {a = b} s (more-atoms {a = c} t q)) z e = go (not (dash a) && dash b) e
   where
     go : (x : Bool) → (if x then some (c .char) else none) ≡ some z → isScalar z ≡ true
     go true f = let w : c .char ≡ z = cc in ap isScalar (sym w) ∙ t
-    go false f = let w : _≡_ {A = ℕ} 0 1 = cc in absurd (omega arith)
+    go false f = impossible (cc)
 
 written-ends : {l : List Atom} → ScalarAtoms l → (k : ℕ) → ScalarEnds (written l k)
 unfolding written

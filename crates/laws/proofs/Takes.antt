@@ -9,10 +9,10 @@ use mathlib.Core.Bool.{Bool, true, false}
 use mathlib.Core.List.{List, [], _∷_, _++_}
 use mathlib.Core.Option.{Option, none, some}
 use Rattle.basics.specs.Basics.{if_then_else_, is}
+use Rattle.basics.proofs.Tests.{impossible, clash}
 use Rattle.lexer.specs.Tokens.{Kind, Tokens, token, eof, bad}
 use Rattle.notation.specs.Parser.{Answer, read, refused, Parser, andThen, _>>=_, pure, refuse, choose, startOf, here, refuseHere, kindOf, kind, arrive, next, nameIn, atIn, stringIn, isEnd, isMark, says, eatIf, eat, eatName, eatAt, must, expect, expectName, taken, expectString, parseIdentifier, size, turns, loop, separate, untilStep, until, comma, commaOrNot, nothing}
 use Rattle.laws.specs.Bound.{turnsOr, Enough}
-use Rattle.laws.proofs.Lists.{clash}
 
 module _ {S : Type 0} where
   -- at least k of the n tokens are gone; a refusal satisfies anything
@@ -46,11 +46,6 @@ module _ {S : Type 0} where
       → Takes p ts j → ((a : A) (us : Tokens S) → Takes (f a) us (λ b. k b - j a)) → Takes (p >>= f) ts k
   unfolding _>>=_
   bind-takes {j = j} {k} {p} {ts} f h g = record { holds = then-takes j k (size ts) (p ts) f (h .holds) g }
-
-  -- numbers that do not depend on the answer add up
-  pub sum-takes : {A B : Type 0} {j k : ℕ} {p : Parser S A} {ts : Tokens S} (f : A → Parser S B)
-      → Takes p ts (λ a. j) → ((a : A) (us : Tokens S) → Takes (f a) us (λ b. k)) → Takes (p >>= f) ts (λ b. k + j)
-  sum-takes {k = k} f h g = bind-takes f h λ a us. weaken (g a us) λ b. omega arith
 
   pub pure-takes : {A : Type 0} (a : A) (ts : Tokens S) {k : A → ℕ} → k a ≡ 0 → Takes (pure a) ts k
   unfolding pure
@@ -93,9 +88,6 @@ module _ {S : Type 0} where
   arrived (eof p) = omega arith
   arrived (bad n p) = tt
 
-  pub arrive-takes : (ts : Tokens S) → Takes arrive ts (λ u. 0)
-  arrive-takes ts = record { holds = arrived ts }
-
   -- a token is there
   abbrev pub There : Tokens S → Type 0
   There ts = isEnd (kindOf ts) ≡ false
@@ -133,7 +125,7 @@ mark-there c n (some k) h = refl
 mark-there c n none h = clash (is c 0) h n
 
 no-text : {B : Type 0} {t : List ℕ} → _≡_ {A = Option (List ℕ)} none (some t) → B
-no-text e = let z : _≡_ {A = ℕ} 0 1 = cc in absurd (omega arith)
+no-text e = impossible (cc)
 
 pub name-there : (k : Option Kind) (t : List ℕ) → nameIn k ≡ some t → isEnd k ≡ false
 name-there (some k) t h = refl

@@ -13,10 +13,10 @@ use Rattle.notation.specs.Limits.{levels}
 use Rattle.notation.specs.Parser.{Parser, _>>=_, _>>_, pure, kind, kindOf, isEnd, isMark, nameIn, atIn, stringIn, says, eat, expect, parseIdentifier, untilStep, until, commaOrNot, nothing}
 use Rattle.notation.specs.Parser as P
 use Rattle.notation.specs.Expressions.{referenceOf, parseBracedExpression, choiceAt}
-use Rattle.notation.specs.Members.{TokenMember, LocalMember, localFallback, SkipMember, ExternalMember, Member, declared}
-use Rattle.notation.specs.Declarations.{parseRule, referenceBy, parseTokenReference, parseTokenPrecedence, parseTokenConflict, parseLiteral, parseNamedNode, tokenMemberBy, parseTokenMember, parseTokens, parseLocalMember, parseLocalTokens, parseSource, parseExternalMember, parseExternalTokenSet, parseExternalTokens, parseExternalSpecializer, parseExternalPropSource, parseExternalProp, externalBy, parseExternalDeclaration, parsePrecKind, parsePrecItem, parsePrecedence, seen, parseContextDeclaration, parseSkipMember, parseSkipDeclaration, topBy, parseDirective, declarationBy, parseDeclaration, hasTop, parse}
+use Rattle.notation.specs.Members.{TokenMember, LocalMember, localFallback, SkipMember, ExternalMember, Member}
+use Rattle.notation.specs.Declarations.{parseRule, referenceBy, parseTokenReference, parseTokenPrecedence, parseTokenConflict, parseLiteral, parseNamedNode, tokenMemberBy, parseTokenMember, parseTokens, parseLocalMember, parseLocalTokens, parseSource, parseExternalMember, parseExternalTokenSet, parseExternalTokens, parseExternalSpecializer, parseExternalPropSource, parseExternalProp, externalBy, parseExternalDeclaration, parsePrecKind, parsePrecItem, parsePrecedence, seen, parseContextDeclaration, parseSkipMember, parseSkipDeclaration, topBy, parseDirective, declarationBy, parseDeclaration}
 use Rattle.laws.specs.Bound.{Enough}
-use Rattle.laws.proofs.Takes.{Takes, bind-takes, pure-takes, refuse-takes, refuseHere-takes, choose-takes, if-takes, any, here-takes, kind-takes, arrive-takes, There, next-takes, next-any, at-there, string-there, eatName-takes, eatAt-takes, expect-takes, expectName-takes, expectString-takes, parseIdentifier-takes, comma-or-not, nothing-takes, items-takes, items-enough}
+use Rattle.laws.proofs.Takes.{Takes, bind-takes, pure-takes, refuse-takes, refuseHere-takes, choose-takes, if-takes, any, here-takes, kind-takes, There, next-takes, next-any, at-there, string-there, eatName-takes, eatAt-takes, expect-takes, expectName-takes, expectString-takes, parseIdentifier-takes, comma-or-not, nothing-takes, items-takes, items-enough}
 use Rattle.laws.proofs.TakesExpressions.{eat-any, parseProps-takes, parseBraced-takes, parseRuleNamed-takes, parseInner-takes, choiceAt-takes}
 
 module _ {S : Type 0} where
@@ -260,11 +260,3 @@ module _ {S : Type 0} where
   -- the declarations of a grammar
   pub declarations-enough : Enough {S = S} (untilStep (kind >>= λ k. pure (isEnd k)) nothing parseDeclaration)
   declarations-enough = items-enough _ end-takes nothing-takes parseDeclaration-takes
-
-  -- the whole gives no tokens back
-  pub parse-takes : (ts : Tokens S) → Takes parse ts (λ g. 0)
-  unfolding parse
-  parse-takes ts =
-      bind-takes _ (arrive-takes ts) λ u us.
-      here-takes _ us (bind-takes _ (items-takes _ end-takes nothing-takes parseDeclaration-takes us) λ ms vs.
-      choose-takes (hasTop (picked declared ms)) (pure-takes _ vs refl) (refuseHere-takes _ vs))

@@ -2,7 +2,6 @@
 -- Assumes nothing.
 use Prim.Native.Nat.{ℕ, zero, suc, _+_, _-_}
 use Prim.Native.Char.{Char}
-use native.Mathlib.Omega.{arith}
 use mathlib.Core.Path.{_≡_, refl}
 use mathlib.Core.Bool.{Bool, true, false, _&&_, _||_}
 use mathlib.Core.List.{List, [], _∷_}
@@ -10,6 +9,7 @@ use mathlib.Core.Option.{Option, none, some}
 use lib.Dec.{eqb}
 use lib.ListN.{length}
 use Rattle.basics.specs.Basics.{letters, is, spells}
+use Rattle.basics.proofs.Tests.{impossible}
 use Rattle.characters.specs.Spans.{Span}
 use Rattle.lexer.specs.Tokens.{Kind, Tokens}
 use Rattle.lexer.specs.Sets.{spans, fault}
@@ -24,7 +24,7 @@ use Rattle.laws.proofs.Takes.{Takes, bind-takes, pure-takes, refuse-tak
 -- a mark of a repeat is a token
 repeat-there : (k : Option Kind) (r : RepeatKind) → repeatMark (markIn k) ≡ some r → isEnd k ≡ false
 repeat-there (some k) r h = refl
-repeat-there none r h = let z : _≡_ {A = ℕ} 0 1 = cc in absurd (omega arith)
+repeat-there none r h = impossible (cc)
 
 module _ {S : Type 0} where
   pub eat-any : (c : Char) → is c 0 ≡ false → (ts : Tokens S) → Takes (eat c) ts (λ b. 0)

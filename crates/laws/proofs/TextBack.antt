@@ -1,39 +1,34 @@
 -- The normal text of a good grammar, read: the tokens that were written.
 -- Assumes nothing.
-use Prim.Native.Nat.{ℕ, zero, suc, _+_, _-_, _≤_, _<_}
+use Prim.Native.Nat.{ℕ, _+_, _<_}
 use native.Mathlib.Omega.{arith}
-use mathlib.Core.Path.{_≡_, refl, ap, sym, _∙_}
+use mathlib.Core.Path.{_≡_, refl, ap}
 use mathlib.Core.Bool.{Bool, true, false}
-use mathlib.Core.List.{List, [], _∷_, _++_, map, append-assoc}
-use mathlib.Core.Option.{Option, none, some}
-use lib.ListN.{length, drop, length-append}
-use lib.Seq.{drop-append-seam}
+use mathlib.Core.List.{List, [], _∷_, _++_, map, append-assoc, map-append, map-map}
 use Rattle.basics.specs.Basics.{firstOf}
+use Rattle.basics.proofs.Tests.{clash}
 use Rattle.characters.specs.Classes.{whiteSpace, isWhitespace, isEcmascriptWhitespace}
 use Rattle.characters.specs.Spans.{inSpans}
-use Rattle.characters.specs.Utf8.{encode, encodeAll, isScalar}
 use Rattle.characters.proofs.Encode.{scalar-low}
 use Rattle.characters.proofs.Chars.{Scalars, none-left, one-more}
-use Rattle.lexer.specs.Tokens.{Kind, Tokens, tokens, tokensFrom}
+use Rattle.lexer.specs.Tokens.{Kind, Tokens, tokens}
 use Rattle.lexer.specs.Tokens as T
 use Rattle.lexer.proofs.Back.{Written, a-name, an-at, a-string, a-set, a-not-set, a-mark, Laid, laid-none, laid-more, reads-none, reads-more, lex-back}
 use Rattle.lexer.proofs.Back as B
-use Rattle.tree.specs.Syntax.{Identifier, Declaration, ExternalPropDeclaration, GrammarDeclaration}
-use Rattle.notation.specs.Members.{Member, declaration, dialects, externalProp, detectDelim}
+use Rattle.tree.specs.Syntax.{Identifier, GrammarDeclaration}
+use Rattle.notation.specs.Members.{Member, declaration, dialects, externalProp}
 use Rattle.notation.specs.Parser.{isEnd}
 use Rattle.spelling.specs.Spelling.{spell, spaced}
 use Rattle.spelling.specs.NormalText.{each, declarationTokens, dialectsLines, externalPropTokens, detectLines, lines, linesText}
+use Rattle.spelling.proofs.Lines.{lines-of}
 use Rattle.laws.specs.Starts.{onTokens}
-use Rattle.laws.proofs.Lists.{clash}
 use Rattle.laws.proofs.Fine.{U}
-use Rattle.laws.proofs.Readable.{Every, every-none, every-more}
 use Rattle.laws.proofs.Good.{GoodGrammar}
-use Rattle.laws.proofs.Appends.{Adds}
 use Rattle.laws.proofs.ReadBack.{laid}
 use Rattle.laws.proofs.ReadBackGrammar.{memberTokens, member-adds, member-begins, members, dialectMembers, detectMembers}
 use Rattle.laws.proofs.Lexable.{Lexable}
 use Rattle.laws.proofs.LexableDeclarations.{Line, members-lines}
-use Rattle.laws.proofs.SameTokens.{linesOf}
+use Rattle.laws.proofs.Every.{Every, every-none, every-more}
 
 -- ------------------------------------------------------------------ tokens and the space after each
 
@@ -87,14 +82,6 @@ members-text (every-more {x = m} {xs = ms} g q) = rw (member-adds m .on [] (each
     go [] e x t = clash _ refl e
     go (k ∷ l) e x t = line-text k l x t
 
-map-append : {A B : Type 0} (f : A → B) (xs ys : List A) → map f (xs ++ ys) ≡ map f xs ++ map f ys
-map-append f [] ys = refl
-map-append f (x ∷ xs) ys = ap (λ l. f x ∷ l) (map-append f xs ys)
-
-map-map : {A B C : Type 0} (f : B → C) (g : A → B) (xs : List A) → map f (map g xs) ≡ map (λ x. f (g x)) xs
-map-map f g [] = refl
-map-map f g (x ∷ xs) = ap (λ l. f (g x) ∷ l) (map-map f g xs)
-
 dialects-lines : (ns : List (Identifier U)) → map line (dialectMembers ns) ≡ dialectsLines ns
 dialects-lines [] = refl
 dialects-lines (n ∷ ns) = refl
@@ -107,7 +94,7 @@ lines-members : (g : GrammarDeclaration U) → lines g ≡ map line (members g)
 lines-members g =
     let ds = g .declarations in let ns = g .dialects in let xs = g .externalProps in let b = g .autoDelimiters in
     rw (
-      linesOf g,
+      lines-of g,
       append-assoc (map (λ d. declarationTokens d []) ds ++ dialectsLines ns) (map (λ x. externalPropTokens x []) xs) (detectLines b),
       append-assoc (map (λ d. declarationTokens d []) ds) (dialectsLines ns) (map (λ x. externalPropTokens x []) xs ++ detectLines b),
       map-append line (map declaration ds) (dialectMembers ns ++ (map externalProp xs ++ detectMembers b)),

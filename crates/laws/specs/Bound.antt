@@ -6,7 +6,7 @@ use mathlib.Core.Path.{_≡_}
 use mathlib.Core.List.{List, [], _∷_, _++_}
 use mathlib.Core.Option.{Option, none, some}
 use Rattle.lexer.specs.Tokens.{Tokens}
-use Rattle.notation.specs.Parser.{Parser, _>>=_, pure, size, turns, loop}
+use Rattle.notation.specs.Parser.{Parser, pure, size, turns, loop, _>>=_}
 
 module _ {S A : Type 0} where
   -- `turns` with `out` in place of the refusal where no turns are left

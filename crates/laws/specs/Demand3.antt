@@ -2,17 +2,18 @@
 -- Assumes nothing.
 use Prim.Native.Nat.{ℕ, _≤_}
 use mathlib.Core.Path.{_≡_}
-use mathlib.Core.Bool.{Bool, true}
+use mathlib.Core.Bool.{true}
 use mathlib.Core.List.{List}
 use lib.ListN.{length, take}
 use Rattle.tree.specs.Syntax.{GrammarDeclaration}
 use Rattle.tree.specs.Stored.{grammarWords, grammarTexts}
 use Rattle.tree.specs.Equality.{agree}
 use Rattle.spelling.specs.NormalText.{normalText}
-use Rattle.grammar.specs.Reading.{Reading, tree, reading, longest}
-use Rattle.grammar.specs.Calls.{NormalAnswer, written, NormalOutcome, normal}
+use Rattle.grammar.specs.Reading.{tree, reading, longest}
+use Rattle.grammar.specs.Calls.{written, normal}
 
 infix 4 _reads_
+-- what a text is read as
 abbrev Tree : Type 0
 Tree = GrammarDeclaration ℕ
 
@@ -27,6 +28,7 @@ pub record Accepted (g : Tree) : Type 0 where
   pub agrees : agree g again ≡ true
   pub itself : normalText again ≡ normalText g
 
+-- so for every accepted text whose normal text is not too long
 abbrev pub NormalTextsAreAccepted : Type 0
 NormalTextsAreAccepted = (text : List ℕ) (g : Tree) → text reads g → length (normalText g) ≤ longest → Accepted g
 

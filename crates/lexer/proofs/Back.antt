@@ -12,7 +12,7 @@ use lib.ListN.{length, take, length-append}
 use lib.Seq.{take-append-seam, drop-append-seam}
 use borrow.Author.Tests.{eq-eqb, ne-eqb, eqb-true, not-true, leb-true, ltb-true}
 use Rattle.basics.specs.Basics.{letters, is, among, every}
-use Rattle.basics.proofs.Tests.{cases, both-true}
+use Rattle.basics.proofs.Tests.{cases, both-true, impossible}
 use Rattle.characters.specs.Utf8.{width}
 use Rattle.characters.specs.Places.{past, run}
 use Rattle.characters.specs.Spans.{Span, inSpan, inSpans}
@@ -40,7 +40,7 @@ noWords [] = true
 noWords (s ∷ ss) = noWord (codesUp (s .first) (s .past - s .first)) && noWords ss
 
 differ : (f : ℕ → Bool) {x y : ℕ} → f x ≡ true → f y ≡ false → x ≡ y → ⊥
-differ f {x} {y} e g q = let z = sym (subst (λ (n : ℕ). f n ≡ true) q e) ∙ g in let o : _≡_ {A = ℕ} 0 1 = cc in omega arith
+differ f {x} {y} e g q = let z = sym (subst (λ (n : ℕ). f n ≡ true) q e) ∙ g in impossible (cc)
 
 module _ (c : ℕ) (w : isWord c ≡ true) where
   word-not : (x : ℕ) → isWord x ≡ false → eqb c x ≡ false
@@ -58,7 +58,7 @@ module _ (c : ℕ) (w : isWord c ≡ true) where
       cases (eqb c a) (λ e. rw e) (λ e. rw e (among-up n (suc a) (lower e) (omega arith)))
     where
       lower : eqb c a ≡ false → suc a ≤ c
-      lower e = elim (decLt a c) [ yes l ↦ l | no l ↦ absurd (let q = sym (eq-eqb c a (omega arith)) ∙ e in let o : _≡_ {A = ℕ} 0 1 = cc in omega arith) ]
+      lower e = elim (decLt a c) [ yes l ↦ l | no l ↦ (let q = sym (eq-eqb c a (omega arith)) ∙ e in impossible (cc)) ]
 
   not-span : (s : Span) → noWord (codesUp (s .first) (s .past - s .first)) ≡ true → inSpan s c ≡ false
   not-span s h =
@@ -68,7 +68,7 @@ module _ (c : ℕ) (w : isWord c ≡ true) where
       let m = ltb-true c (s .past) (p .1) in
       let a = among-up (s .past - s .first) (s .first) l (omega arith) in
       let b = not-among (codesUp (s .first) (s .past - s .first)) h in
-      let o : _≡_ {A = ℕ} 0 1 = cc in absurd (omega arith))
+      impossible (cc))
       (λ e. e)
 
   not-spans : (ss : List Span) → noWords ss ≡ true → inSpans ss c ≡ false
@@ -132,7 +132,7 @@ module _ (c : ℕ) (w : isWord c ≡ true) where
 -- white space is no word character
 pub space-word : (d : ℕ) → isEcmascriptWhitespace d ≡ true → isWord d ≡ false
 space-word d h =
-    cases (isWord d) (λ e. let q = sym h ∙ word-space d e in let o : _≡_ {A = ℕ} 0 1 = cc in absurd (omega arith)) (λ e. e)
+    cases (isWord d) (λ e. let q = sym h ∙ word-space d e in impossible (cc)) (λ e. e)
 
 -- ------------------------------------------------------------------ what a token is written as
 

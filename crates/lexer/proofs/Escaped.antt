@@ -19,10 +19,10 @@ use Rattle.characters.proofs.Written.{bytes-some, length-written}
 use Rattle.characters.specs.declared.Char.{Char}
 use Rattle.characters.specs.declared.Char.the-variants.{Scalar, Ill}
 use Rattle.characters.proofs.Laws.{scalar-fits}
-use Rattle.basics.proofs.Tests.{within-true}
+use Rattle.basics.proofs.Tests.{within-true, impossible}
 use Rattle.characters.proofs.Chars.{codes-on, codes-off, stands-at, run-at, peek-on, next-head}
 use Rattle.lexer.specs.Escapes.{hexDigit, Escape, further, scalar, fixed, untilBrace, braced, orElse, orLetter, control, escape, escapedBy, atomsFrom, atoms, decodeString}
-use Rattle.lexer.specs.Promise.{digitOf, hexAt, bracedAt, untilAt, fixedAt, Takes, atomsAt, atomAnswer, AtomPlaced, valueAt, ReadsAtom}
+use Rattle.lexer.specs.Promise.{digitOf, hexAt, bracedAt, untilAt, fixedAt, Takes, atomsAt, atomAnswer, AtomPlaced, ReadsAtom}
 use Rattle.lexer.specs.declared.escapes.Digit.the-variants.{Is, No}
 use Rattle.lexer.specs.declared.escapes.Atom.{Atom}
 use Rattle.lexer.specs.declared.escapes.Atom.the-variants.{One, End}
@@ -232,7 +232,7 @@ module _ (s : List ℕ) (at : ℕ) where
   not-hex cs (some e) h = cc
 
   takes-code : (e v end : ℕ) (o : Option Escape) → Code v end ≡ hexAt at (charsAt s at) o → Takes s at (orLetter e o) v end
-  takes-code e v end none h = let z : _≡_ {A = ℕ} 0 1 = cc in absurd (omega arith)
+  takes-code e v end none h = impossible (cc)
   takes-code e v end (some x) h = record { char = cc; ends = cc }
 
   pub digits-code : (e k v end : ℕ) → Code v end ≡ fixedAt k 0 s at → Takes s at (orLetter e (fixed k 0 (charsAt s at))) v end
@@ -244,7 +244,7 @@ module _ (s : List ℕ) (at : ℕ) where
   digits-letter e k h = rw (not-hex (charsAt s at) (fixed k 0 (charsAt s at)) h) (record { char = refl; ends = refl })
 
   or-code : (e v end : ℕ) (o b : Option Escape) → Code v end ≡ hexAt at (charsAt s at) o → Takes s at (orLetter e (orElse o b)) v end
-  or-code e v end none b h = let z : _≡_ {A = ℕ} 0 1 = cc in absurd (omega arith)
+  or-code e v end none b h = impossible (cc)
   or-code e v end (some x) b h = record { char = cc; ends = cc }
 
   pub unicode-code : (e v end : ℕ) → Code v end ≡ bracedAt s at → Takes s at (orLetter e (orElse (braced (charsAt s at)) (fixed 4 0 (charsAt s at)))) v end
@@ -446,7 +446,10 @@ module _ (s : List ℕ) (at : ℕ) where
             placed = (omega arith, omega arith, rw (t .char) (z .scalar));
           }
 
--- the value of a string's text
+-- the value of a string's text from a place on
+unfoldable pub valueAt : List ℕ → ℕ → List ℕ
+valueAt s at = map (λ a. a .char) (atomsAt s at)
+
 module _ (s : List ℕ) (at : ℕ) where
   pub value-end : (r : Atom) → ReadsAtom s at r → r ≡ End → valueAt s at ≡ []
   unfolding valueAt

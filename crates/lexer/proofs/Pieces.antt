@@ -1,7 +1,7 @@
 -- The answers for the pieces of a text.
 -- Assumes nothing.
 use mathlib.Core.Path.{_≡_, refl, sym, _∙_, ap, ap₂, subst}
-use mathlib.Core.Bool.{Bool, true, false, _&&_}
+use mathlib.Core.Bool.{Bool, true, false}
 use mathlib.Core.List.{List, _∷_, []}
 use mathlib.Core.Option.{Option, none, some}
 use Prim.Native.Nat.{ℕ, zero, suc, _+_, _-_, _≤_, _<_}
@@ -18,6 +18,7 @@ use Rattle.characters.proofs.Laws.{scalar-fits}
 use Rattle.characters.proofs.Chars.{codes-on, codes-off, stands-at, Run, run-at, next-head}
 use Rattle.characters.proofs.Encode.{ascii-wide}
 use Rattle.basics.specs.Basics.{is, among, letters}
+use Rattle.basics.proofs.Tests.{both-true, impossible}
 use Rattle.characters.specs.Classes.{isLineTerminator, isPunctuation, isWord}
 use Rattle.lexer.specs.Tokens.{body, never, Piece, stringOf, setOf, atOf, solid, Tokens, tokensFrom}
 use Rattle.lexer.specs.Promise.{opensSet, tokensAt, foundAt, endOf, Settled, Skipped, Part, Lexes, Reads}
@@ -38,7 +39,7 @@ data Got (at : ℕ) (cs : List ℕ) : Option ℕ → ℕ → ℕ → Type 0 wher
   got : (k : ℕ) → Got at cs (some k) (past at k cs) (past at (suc k) cs)
 
 got-of : (at : ℕ) (cs : List ℕ) (o : Option ℕ) (e end : ℕ) → At e end ≡ foundAt at cs o → Got at cs o e end
-got-of at cs none e end h = let z : _≡_ {A = ℕ} 0 1 = cc in absurd (omega arith)
+got-of at cs none e end h = impossible (cc)
 got-of at cs (some k) e end h =
     let p : e ≡ past at k cs = cc in
     let q : end ≡ past at (suc k) cs = cc in
@@ -229,10 +230,6 @@ pub solid-at : (cs : List ℕ) → solid 0x40 cs ≡ atOf cs (run isWord cs)
 unfolding solid
 solid-at cs = refl
 
-and-right : (a b : Bool) → (a && b) ≡ true → b ≡ true
-and-right true b e = e
-and-right false b e = cc
-
 pub set-ascii : (s : List ℕ) (c next : ℕ) → opensSet s c next ≡ true → c < 0x80
 unfolding opensSet
 set-ascii s c next e = elim (decLt c 0x80) [ yes l ↦ l | no l ↦ out l ]
@@ -242,11 +239,11 @@ set-ascii s c next e = elim (decLt c 0x80) [ yes l ↦ l | no l ↦ out l ]
         let e₁ = ne-eqb c 0x24 (λ q. l (omega arith)) in
         let e₂ = ne-eqb c 0x21 (λ q. l (omega arith)) in
         let z = simp (e₁, e₂) at e in
-        let y : _≡_ {A = ℕ} 0 1 = cc in absurd (omega arith)
+        impossible (cc)
 
 pub peek-set : (s : List ℕ) (c next : ℕ) → opensSet s c next ≡ true → Next s next 0x5B
 unfolding opensSet
-peek-set s c next e = next-head s next 0x5B (omega arith) (omega arith) (eqb-true (peekAt s next) 0x5B (and-right (among (letters "$!") c) (is "[" (peekAt s next)) e))
+peek-set s c next e = next-head s next 0x5B (omega arith) (omega arith) (eqb-true (peekAt s next) 0x5B (both-true (among (letters "$!") c) (is "[" (peekAt s next)) e .1))
 
 -- the end of a text
 pub reads-end : (s : List ℕ) (at : ℕ) → decodeAt s at ≡ Ill → Reads s at (Eof at)

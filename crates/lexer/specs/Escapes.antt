@@ -49,11 +49,12 @@ untilBrace v (c ∷ cs) =
 unfoldable pub braced : List ℕ → Option Escape
 braced cs = if is "{" (head cs) && not (is "}" (head (drop 1 cs))) then further (untilBrace 0 (drop 1 cs)) else none
 
--- the one, or else the other, or else the letter itself
+-- the one, or else the other
 abbrev pub orElse : Option Escape → Option Escape → Option Escape
 orElse none b = b
 orElse (some a) b = some a
 
+-- an escape, or else the letter itself
 abbrev pub orLetter : ℕ → Option Escape → Escape
 orLetter e none = record { char = e; taken = 0 }
 orLetter e (some a) = a

@@ -3,7 +3,7 @@
 use Prim.Native.Nat.{ℕ, zero, suc, _+_, _-_, _*_, _≤_, _<_}
 use mathlib.Core.Path.{_≡_}
 use mathlib.Core.Bool.{Bool, true, false, _&&_}
-use mathlib.Core.List.{List, [], _∷_, _++_, map}
+use mathlib.Core.List.{List, [], _∷_, _++_}
 use mathlib.Core.Option.{Option, none, some}
 use lib.Dec.{leb, ltb}
 use lib.ListN.{length, getD, take, drop}
@@ -95,6 +95,7 @@ Inside start end (Set i a e) = (start ≤ a) × (e ≤ end)
 Inside start end (Punctuation c) = Unit {0}
 Inside start end (Identifier a e) = (start ≤ a) × (e ≤ end)
 
+-- a token lies in the text, from a place on, and its part in it
 abbrev pub Placed : List ℕ → ℕ → Lexed → Type 0
 Placed s from (Token k start end) = (from ≤ start) × (start < end) × (end ≤ length s) × Parted s start k × Inside start end k
 Placed s from (Eof at) = Unit {0}
@@ -112,6 +113,7 @@ abbrev pub Settled : List ℕ → Type 0
 Settled [] = Unit {0}
 Settled (c ∷ cs) = piece c cs ≡ solid c cs
 
+-- what skipping trivia from a place on answers: the place of a token with the same tokens, or a comment that is not closed
 abbrev pub Skipped : List ℕ → ℕ → Trivia → Type 0
 Skipped s from (Clear at) = (from ≤ at) × (tokensAt s from ≡ tokensAt s at) × Settled (charsAt s at)
 Skipped s from (Unclosed p) = tokensAt s from ≡ T.bad unexpectedCharacter p
@@ -136,6 +138,7 @@ pub record Lexes (s : List ℕ) (at n : ℕ) (p : Piece) (r : Lexed) : Type 0 wh
 
 -- ------------------------------------------------------------------ escapes
 
+-- a digit's value as the code has it
 abbrev pub digitOf : Option ℕ → Digit
 digitOf none = No
 digitOf (some d) = Is d
@@ -145,12 +148,15 @@ abbrev pub hexAt : ℕ → List ℕ → Option Escape → Hex
 hexAt at cs none = Not
 hexAt at cs (some e) = Code (e .char) (past at (e .taken) cs)
 
+-- the escape in braces at a place
 unfoldable pub bracedAt : List ℕ → ℕ → Hex
 bracedAt s at = hexAt at (charsAt s at) (braced (charsAt s at))
 
+-- the digits up to a `}` at a place, after those of value v
 unfoldable pub untilAt : ℕ → List ℕ → ℕ → Hex
 untilAt v s at = hexAt at (charsAt s at) (untilBrace v (charsAt s at))
 
+-- k digits at a place, after those of value v
 unfoldable pub fixedAt : ℕ → ℕ → List ℕ → ℕ → Hex
 fixedAt k v s at = hexAt at (charsAt s at) (fixed k v (charsAt s at))
 
@@ -173,13 +179,10 @@ abbrev pub AtomPlaced : List ℕ → ℕ → Atom → Type 0
 AtomPlaced s at (One c x end) = (at + width c ≤ end) × (end ≤ length s) × (isScalar c ≡ true)
 AtomPlaced s at End = Unit {0}
 
+-- what the answer for one atom says
 pub record ReadsAtom (s : List ℕ) (at : ℕ) (r : Atom) : Type 0 where
   pub atoms : atomsAt s at ≡ atomAnswer s r
   pub placed : AtomPlaced s at r
-
--- the value of a string's text from a place on
-unfoldable pub valueAt : List ℕ → ℕ → List ℕ
-valueAt s at = map (λ a. a .char) (atomsAt s at)
 
 -- ------------------------------------------------------------------ sets
 
@@ -192,10 +195,12 @@ abbrev pub rangeAnswer : List ℕ → Range → List Span
 rangeAnswer s (R.One first past end) = first upto past ∷ spansAt s end
 rangeAnswer s R.End = []
 
+-- a span takes a byte at least, and lies in the text
 abbrev pub RangePlaced : List ℕ → ℕ → Range → Type 0
 RangePlaced s at (R.One first past end) = (at < end) × (end ≤ length s)
 RangePlaced s at R.End = Unit {0}
 
+-- what the answer for one span says
 pub record ReadsRange (s : List ℕ) (at : ℕ) (r : Range) : Type 0 where
   pub spans : spansAt s at ≡ rangeAnswer s r
   pub placed : RangePlaced s at r
@@ -253,17 +258,19 @@ unfoldable pub later : (before : List Span) → List Span → Bool
 later before [] = false
 later before (s ∷ ss) = if reversed s then false else if overlapsOne s before then true else later before ss
 
--- what stops a set, by the answer
+-- what stops a set, by the answer for it
 abbrev pub stops : Ranges → Option ℕ
 stops (Sound n) = none
 stops Reversed = some reversedSpan
 stops Overlapping = some overlappingSpan
 
+-- a set that nothing stops is answered with the number of its spans
 abbrev pub Counted : List Span → Ranges → Type 0
 Counted ss (Sound n) = n ≡ length ss
 Counted ss Reversed = Unit {0}
 Counted ss Overlapping = Unit {0}
 
+-- what the answer for a whole set says
 pub record Checks (ss : List Span) (r : Ranges) : Type 0 where
   pub cause : stops r ≡ fault ss
   pub count : Counted ss r
@@ -273,6 +280,7 @@ abbrev pub storedBy : Option ℕ → List Span → List ℕ → List ℕ
 storedBy none ss out = if leb (2 * length ss) (length out) then wordsOf (sorted ss) ++ drop (2 * length ss) out else out
 storedBy (some c) ss out = out
 
+-- the same, by what stops the set
 unfoldable pub stored : List Span → List ℕ → List ℕ
 stored ss out = storedBy (fault ss) ss out
 

@@ -51,18 +51,22 @@ pub data Piece : Type 0 where
   token : Kind → ℕ → Piece
   bad : ℕ → Piece
 
+-- a comment by the characters before its `*/`, if it has one
 abbrev pub commentOf : Option ℕ → Piece
 commentOf none = bad unexpectedCharacter
 commentOf (some n) = blank (2 + n + 2)
 
+-- a string by the characters before its second quote, if it has one
 abbrev pub stringOf : List ℕ → Option ℕ → Piece
 stringOf cs none = bad unterminatedString
 stringOf cs (some n) = token (string (take n cs)) (1 + n + 1)
 
+-- a set by the characters before its `]`, if it has one
 abbrev pub setOf : Bool → List ℕ → Option ℕ → Piece
 setOf inverted cs none = bad unterminatedSet
 setOf inverted cs (some n) = token (set inverted (take n cs)) (2 + n + 1)
 
+-- an `@` by the characters of the name after it
 abbrev pub atOf : List ℕ → ℕ → Piece
 atOf cs zero = bad atWithoutName
 atOf cs (suc n) = token (at (take (suc n) cs)) (1 + suc n)

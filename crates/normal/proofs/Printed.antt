@@ -2,7 +2,6 @@
 -- Assumes nothing.
 use Prim.Native.Nat.{ℕ, _≤_}
 use mathlib.Core.Path.{_≡_, sym, ap, _∙_}
-use mathlib.Core.Bool.{true, false, _||_}
 use mathlib.Core.List.{List}
 use native.Mathlib.Omega.{arith}
 use lib.Dec.{ltb}
@@ -20,8 +19,9 @@ use Rattle.laws.proofs.Calls.{wrote-only}
 use Rattle.calls.specs.Promise.{normalAnswer, NormalTo}
 use Rattle.calls.specs.declared.NormalAnswer.{NormalAnswer}
 use Rattle.calls.specs.declared.NormalAnswer.the-variants.{Written, Refused}
-use Rattle.calls.proofs.Demands.{or-right, normal-text-is-settled}
+use Rattle.calls.proofs.Demands.{normal-text-is-settled}
 use Rattle.printing.proofs.Decimals.{refusal-few}
+use Rattle.basics.proofs.Tests.{both-false}
 
 module _ (s out vs us new : List ℕ) (r : NormalAnswer) (z : out ≡ replicate 65535 0) (a : NormalTo s (replicate 14000 0) (replicate 32768 0) out r vs us new) where
   prints : printedBy (normalAnswer r) new ≡ printed s
@@ -37,7 +37,7 @@ module _ (s out vs us new : List ℕ) (r : NormalAnswer) (z : out ≡ replicate 
       let b : NormalTo s (replicate 14000 0) (replicate 32768 0) out (Written n) vs us new = rw e at a in
       let w = wrote-only (replicate 14000 0) (replicate 32768 0) out s n (sym (ap (λ (o : NormalOutcome). o .answer) b)) in
       let t = normalText (w .grammar) in
-      let f = ltb-false (length out) (length t) (or-right (ltb longest (length t)) (ltb (length out) (length t)) (w .room .room)) in
+      let f = ltb-false (length out) (length t) (both-false (ltb longest (length t)) (ltb (length out) (length t)) (w .room .room) .1) in
       let l = as-long in
       let k = w .size in
       (omega arith, rw e at prints)

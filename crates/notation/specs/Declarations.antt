@@ -2,23 +2,22 @@
 -- Assumes nothing.
 use Prim.Native.Nat.{ℕ}
 use mathlib.Core.Bool.{Bool, true, false, _&&_, _||_, not}
-use mathlib.Core.List.{List, [], _∷_, _++_}
+use mathlib.Core.List.{List, [], _∷_}
 use mathlib.Core.Option.{Option, none, some}
-use lib.Dec.{eqb}
 use Rattle.basics.specs.Basics.{if_then_else_, spells, same, concat, lastOf, firstOf, isEmpty, kept, picked}
 use Rattle.error.specs.Causes.{topWithoutName, secondTokens, secondPrecedence, secondContext, secondSkip, noTop, badPrecedence, badConflict}
-use Rattle.lexer.specs.Tokens.{Kind, Tokens}
 use Rattle.lexer.specs.Escapes.{decodeString}
-use Rattle.tree.specs.Syntax.{Identifier, Expression, SpecializeKind, RuleDeclaration, TokenReference, TokenPrecDeclaration, TokenConflictDeclaration, LiteralDeclaration, NamedNode, TokenDeclaration, LocalTokenDeclaration, ContextDeclaration, ExternalTokenDeclaration, ExternalSpecializeDeclaration, ExternalPropSourceDeclaration, ExternalPropDeclaration, PrecKind, PrecItem, PrecDeclaration, ScopedSkipDeclaration, Declaration, GrammarDeclaration, startOf, expressions, declarationKind, groups, grouped, hasKind}
+use Rattle.tree.specs.Syntax.{Identifier, SpecializeKind, RuleDeclaration, TokenReference, TokenPrecDeclaration, TokenConflictDeclaration, LiteralDeclaration, NamedNode, TokenDeclaration, LocalTokenDeclaration, ExternalPropDeclaration, PrecKind, PrecItem, PrecDeclaration, Declaration, GrammarDeclaration, startOf, expressions, groups, grouped, hasKind}
 use Rattle.notation.specs.Members.{TokenMember, tokenPrecedence, tokenConflict, tokenRule, tokenLiteral, LocalMember, localPrecedence, localRule, localFallback, SkipMember, skipTopRule, skipRule, ExternalMember, externalToken, externalConflicts, Member, declaration, dialects, externalProp, detectDelim, declared, declaredDialects, declaredProp, detects}
 use Rattle.notation.specs.Limits.{levels, repeats}
-use Rattle.notation.specs.Parser.{Answer, read, refused, Parser, _>>=_, _>>_, pure, refuse, choose, here, kind, refuseHere, unexpected, arrive, next, isEnd, isMark, nameIn, atIn, stringIn, says, eat, eatName, eatAt, expect, expectName, expectString, parseIdentifier, size, turns, loop, untilStep, until, commaOrNot, nothing, andThen, eatIf, must, taken, separate}
+use Rattle.notation.specs.Parser.{Parser, _>>=_, _>>_, pure, refuse, choose, here, kind, refuseHere, unexpected, arrive, next, isEnd, isMark, nameIn, atIn, stringIn, says, eat, eatName, eatAt, expect, expectName, expectString, parseIdentifier, size, turns, loop, untilStep, until, commaOrNot, nothing, andThen, eatIf, must, taken, separate}
 use Rattle.notation.specs.Parser as P
 use Rattle.notation.specs.Expressions.{parsePart, propNamed, parseProp, parseProps, parseSetExpression, referenceOf, parseRepeat, repeated, slots, firstEmptyArm, parseBracedExpression, parseRuleNamed, parseInlineRuleExpression, parseSpecializeExpression, parseParenthesizedExpression, parseArguments, parseNamed, parseExpressionInner, parseExpressionSuffix, parseItem, parseExpressionSequence, parseArm, parseExpressionChoice, choiceAt, outermost, partBy, propBy, classBy, stdClassBy, setBy, literalOf, contentBy, inlineBy, stacked, repeatBy, sequenceOf, isEmptyArm, choiceBy, choiceOf, innerBy, itemBy}
 
 module _ {S : Type 0} where
   -- ------------------------------------------------------------------ rules and blocks
 
+  -- `parse_rule`, from its name on
   unfoldable pub parseRule : Parser S (RuleDeclaration S)
   parseRule = parseIdentifier >>= parseRuleNamed outermost
 
@@ -32,6 +31,7 @@ module _ {S : Type 0} where
 
   -- ------------------------------------------------------------------ token blocks
 
+  -- the reference, or a refusal at p
   unfoldable pub referenceBy : (cause : ℕ) → S → Option (TokenReference S) → Parser S (TokenReference S)
   referenceBy n p none = refuse n p
   referenceBy n p (some r) = pure r
@@ -42,6 +42,7 @@ module _ {S : Type 0} where
     e ← parseExpressionInner outermost
     referenceBy n (startOf e) (referenceOf e)
 
+  -- `@precedence` in a block of tokens, at its keyword
   unfoldable pub parseTokenPrecedence : Parser S (TokenPrecDeclaration S)
   parseTokenPrecedence = do
     p ← here
@@ -49,6 +50,7 @@ module _ {S : Type 0} where
     rs ← block commaOrNot (λ _. parseTokenReference badPrecedence)
     pure (record { start = p; items = rs })
 
+  -- `@conflict` in a block of tokens, at its keyword
   unfoldable pub parseTokenConflict : Parser S (TokenConflictDeclaration S)
   parseTokenConflict = do
     p ← here
@@ -68,12 +70,14 @@ module _ {S : Type 0} where
     ps ← parseProps
     pure (record { start = p; literal = t; props = ps })
 
+  -- a name and its props
   unfoldable pub parseNamedNode : Parser S (NamedNode S)
   parseNamedNode = do
     n ← parseIdentifier
     ps ← parseProps
     pure (record { id = n; props = ps })
 
+  -- a member of `@tokens` by the word after an `@`, or the string, that it begins with
   unfoldable pub tokenMemberBy : (at string : Option (List ℕ)) → Parser S (TokenMember S)
   tokenMemberBy at (some t) = parseLiteral t >>= λ x. pure (TokenMember.literal x)
   tokenMemberBy at none =
@@ -81,6 +85,7 @@ module _ {S : Type 0} where
       else if says "conflict" at then parseTokenConflict >>= (λ x. pure (TokenMember.conflict x))
       else parseRule >>= (λ x. pure (TokenMember.rule x))
 
+  -- a member of `@tokens`
   unfoldable pub parseTokenMember : List (TokenMember S) → Parser S (TokenMember S)
   parseTokenMember before = kind >>= λ k. tokenMemberBy (atIn k) (stringIn k)
 
@@ -131,9 +136,11 @@ module _ {S : Type 0} where
     isConflict ← choose conflicts (eatAt "conflict") (pure false)
     choose isConflict (names >>= λ ns. pure (ExternalMember.conflicts ns)) (parseNamedNode >>= λ x. pure (ExternalMember.token x))
 
+  -- the braces of an external block
   unfoldable pub parseExternalTokenSet : (conflicts : Bool) → Parser S (List (ExternalMember S))
   parseExternalTokenSet conflicts = block commaOrNot (parseExternalMember conflicts)
 
+  -- after `@external tokens`
   unfoldable pub parseExternalTokens : S → Parser S (Declaration S)
   parseExternalTokens p = do
     n ← parseIdentifier
@@ -147,6 +154,7 @@ module _ {S : Type 0} where
       conflicts = concat (picked externalConflicts ms);
     }))
 
+  -- after `@external extend` or `@external specialize`
   unfoldable pub parseExternalSpecializer : S → SpecializeKind → Parser S (Declaration S)
   parseExternalSpecializer p k = do
     e ← parseBracedExpression outermost
@@ -162,6 +170,7 @@ module _ {S : Type 0} where
       tokens = picked externalToken ms;
     }))
 
+  -- after `@external propSource`
   unfoldable pub parseExternalPropSource : S → Parser S (Declaration S)
   parseExternalPropSource p = do
     n ← parseIdentifier
@@ -177,6 +186,7 @@ module _ {S : Type 0} where
     s ← parseSource
     pure (record { start = p; id = n .name; externalId = x; source = s })
 
+  -- a declaration as a member of the file
   abbrev pub declares : Parser S (Declaration S) → Parser S (Member S)
   declares m = m >>= λ d. pure (declaration d)
 
@@ -190,11 +200,13 @@ module _ {S : Type 0} where
       else if says "propSource" t then next >> declares (parseExternalPropSource p)
       else unexpected
 
+  -- after `@external`
   unfoldable pub parseExternalDeclaration : S → Parser S (Member S)
   parseExternalDeclaration p = kind >>= λ k. externalBy p (nameIn k)
 
   -- ------------------------------------------------------------------ precedences, context, skips
 
+  -- `@left`, `@right`, `@cut` or nothing
   unfoldable pub parsePrecKind : Parser S (Option PrecKind)
   parsePrecKind = do
     l ← eatAt "left"
@@ -204,6 +216,7 @@ module _ {S : Type 0} where
         c ← eatAt "cut"
         choose c (pure (some PrecKind.cut)) (pure none)))
 
+  -- a name and how it associates
   unfoldable pub parsePrecItem : Parser S (PrecItem S)
   parsePrecItem = do
     n ← parseIdentifier
@@ -229,6 +242,7 @@ module _ {S : Type 0} where
     s ← parseSource
     pure (Declaration.context (record { start = p; id = n .name; source = s })))
 
+  -- a member of a scoped `@skip`: a rule, or a top rule after `@top`
   unfoldable pub parseSkipMember : List (SkipMember S) → Parser S (SkipMember S)
   parseSkipMember before = do
     isTop ← eatAt "top"
@@ -267,10 +281,12 @@ module _ {S : Type 0} where
       else if spells "skip" t then next >> declares (parseSkipDeclaration p before)
       else unexpected
 
+  -- by the keyword that it begins with; without one it is a rule
   unfoldable pub declarationBy : S → List (Member S) → Option (List ℕ) → Parser S (Member S)
   declarationBy p before (some t) = parseDirective p before t
   declarationBy p before none = parseRule >>= λ r. pure (declaration (Declaration.rule r))
 
+  -- `parse_declaration`
   unfoldable pub parseDeclaration : List (Member S) → Parser S (Member S)
   parseDeclaration before = do
     p ← here
@@ -291,6 +307,7 @@ module _ {S : Type 0} where
   isTop (Declaration.precedences x) = false
   isTop (Declaration.mainSkip e) = false
 
+  -- one of the declarations has a top rule
   unfoldable pub hasTop : List (Declaration S) → Bool
   hasTop [] = false
   hasTop (d ∷ ds) = isTop d || hasTop ds

@@ -1,7 +1,7 @@
 -- Props, rules and expressions: the Rust's functions from `parse_rule` to `parse_expression_choice`.
 -- Assumes nothing.
 use Prim.Native.Nat.{ℕ, zero, suc, _+_}
-use mathlib.Core.Bool.{Bool, true, false, _&&_, _||_, not}
+use mathlib.Core.Bool.{Bool, true, false, _&&_, _||_}
 use mathlib.Core.List.{List, [], _∷_, _++_}
 use mathlib.Core.Option.{Option, none, some}
 use lib.Dec.{eqb}
@@ -15,9 +15,9 @@ use Rattle.lexer.specs.Sets.{spans, fault, sorted}
 use Rattle.tree.specs.CharClasses.{fromName}
 use Rattle.tree.specs.Syntax.{Identifier, PropPart, Prop, ConflictMarker, ConflictMarkerKind, SpecializeKind, RepeatKind, CharClass, Expression, Slots, last, slot, RuleDeclaration, TokenReference, startOf, expressions}
 use Rattle.notation.specs.Limits.{levels, repeats}
-use Rattle.notation.specs.Parser.{Parser, _>>=_, _>>_, pure, refuse, choose, here, kind, refuseHere, unexpected, next, markIn, nameIn, atIn, isMark, says, endsSequence, eat, expect, parseIdentifier, loop, until, comma}
+use Rattle.notation.specs.Parser.{Parser, _>>=_, _>>_, pure, refuse, choose, here, kind, refuseHere, unexpected, next, markIn, nameIn, atIn, isMark, endsSequence, eat, expect, parseIdentifier, loop, until, comma}
 
--- the mark of a repeat, and of a marker
+-- the mark of a repeat
 abbrev pub repeatMark : ℕ → Option RepeatKind
 repeatMark c =
     if is "*" c then some RepeatKind.zeroOrMore
@@ -25,6 +25,7 @@ repeatMark c =
     else if is "+" c then some RepeatKind.oneOrMore
     else none
 
+-- the mark of a marker
 abbrev pub markerMark : ℕ → Option ConflictMarkerKind
 markerMark c =
     if is "~" c then some ConflictMarkerKind.ambiguity
@@ -55,6 +56,7 @@ module _ {S : Type 0} where
   partBy p (some (Kind.set i t)) = pure none
   partBy p none = pure none
 
+  -- a part of a prop, if one follows
   unfoldable pub parsePart : List (PropPart S) → Parser S (Option (PropPart S))
   parsePart before = do
     p ← here
@@ -70,11 +72,13 @@ module _ {S : Type 0} where
     parts ← choose equals (loop parsePart) (pure [])
     pure (record { start = p; at = at; name = t; value = parts })
 
+  -- by the word after an `@`, or the name, that it begins with
   unfoldable pub propBy : Option (List ℕ) → Option (List ℕ) → Parser S (Prop S)
   propBy (some t) name = propNamed true t
   propBy none (some t) = propNamed false t
   propBy none none = unexpected
 
+  -- `parse_prop`
   unfoldable pub parseProp : Parser S (Prop S)
   parseProp = kind >>= λ k. propBy (atIn k) (nameIn k)
 
@@ -86,6 +90,7 @@ module _ {S : Type 0} where
 
   -- ------------------------------------------------------------------ parts of expressions
 
+  -- the class, if there is one of that name
   unfoldable pub classBy : S → Option CharClass → Parser S (Expression S)
   classBy p none = unexpected
   classBy p (some c) = next >> pure (Expression.class p c)
@@ -101,6 +106,7 @@ module _ {S : Type 0} where
   setBy p inverted ss none = next >> pure (Expression.set p inverted (sorted ss))
   setBy p inverted ss (some n) = refuse n p
 
+  -- the set at p, with its body
   unfoldable pub parseSetExpression : S → Bool → List ℕ → Parser S (Expression S)
   parseSetExpression p inverted body = setBy p inverted (spans body) (fault (spans body))
 
@@ -203,6 +209,7 @@ module _ {S : Type 0} where
   firstEmptyArm [] = none
   firstEmptyArm (e ∷ es) = if isEmptyArm e then some (startOf e) else firstEmptyArm es
 
+  -- the choice, unless an arm is empty
   unfoldable pub choiceBy : S → List (Expression S) → Option S → Parser S (Expression S)
   choiceBy p es none = pure (Expression.choice p (expressions es))
   choiceBy p es (some q) = refuse emptyArm q
@@ -216,6 +223,7 @@ module _ {S : Type 0} where
   -- `below` is `parse_expression_choice` one level further in.
 
   module _ (below : Parser S (Expression S)) where
+    -- `{`, an expression, `}`
     unfoldable pub parseBracedExpression : Parser S (Expression S)
     parseBracedExpression = do
       expect "{"
@@ -232,11 +240,13 @@ module _ {S : Type 0} where
       e ← parseBracedExpression
       pure (record { id = n; props = ps; params = params; expression = e })
 
+    -- an inline rule at p of the name t
     unfoldable pub parseInlineRuleExpression : S → List ℕ → Parser S (Expression S)
     parseInlineRuleExpression p t = do
       r ← parseRuleNamed (record { start = p; name = t })
       inlineBy p r (r .params)
 
+    -- `@specialize` or `@extend` at p, at its keyword
     unfoldable pub parseSpecializeExpression : S → SpecializeKind → Parser S (Expression S)
     parseSpecializeExpression p k = do
       next
@@ -257,6 +267,7 @@ module _ {S : Type 0} where
         expect ")"
         pure e)
 
+    -- `<`, arguments, `>`, or nothing
     unfoldable pub parseArguments : Parser S (List (Expression S))
     parseArguments = do
       angle ← eat "<"
@@ -274,6 +285,7 @@ module _ {S : Type 0} where
           es ← parseArguments
           pure (Expression.name p t (expressions es)))
 
+    -- by the kind of its first token
     unfoldable pub innerBy : S → Option Kind → Parser S (Expression S)
     innerBy p (some (Kind.mark c)) =
         if is "(" c then next >> parseParenthesizedExpression p
@@ -293,12 +305,14 @@ module _ {S : Type 0} where
           parseNamed p t k)
     innerBy p none = unexpected
 
+    -- `parse_expression_inner`
     unfoldable pub parseExpressionInner : Parser S (Expression S)
     parseExpressionInner = do
       p ← here
       k ← kind
       innerBy p k
 
+    -- an expression and the repeats over it: `parse_expression_suffix`
     unfoldable pub parseExpressionSuffix : Parser S (Expression S)
     parseExpressionSuffix = do
       p ← here
@@ -316,12 +330,14 @@ module _ {S : Type 0} where
       e ← parseExpressionSuffix
       pure (some (expression e)))
 
+    -- an item of a sequence, if it goes on
     unfoldable pub parseItem : List (Item S) → Parser S (Option (Item S))
     parseItem before = do
       p ← here
       k ← kind
       itemBy p k (markerMark (markIn k))
 
+    -- `parse_expression_sequence`
     unfoldable pub parseExpressionSequence : Parser S (Expression S)
     parseExpressionSequence = do
       p ← here
@@ -336,6 +352,7 @@ module _ {S : Type 0} where
         e ← parseExpressionSequence
         pure (some e)) (pure none)
 
+    -- `parse_expression_choice`
     unfoldable pub parseExpressionChoice : Parser S (Expression S)
     parseExpressionChoice = do
       p ← here

@@ -17,12 +17,14 @@ Within Failed l = Unit
 abbrev pub DigitsOf : (v : ℕ) → (old : List ℕ) → (at : ℕ) → (new : List ℕ) → (n : ℕ) → Type 0
 DigitsOf v old at new n = (k : ℕ) → v < 10 ^ suc k → Adds (decimalFrom (suc k) v []) old at new n
 
--- the end of a refusal's line, from its column on; from its line on; from its place on
+-- the end of a refusal's line, from its column on
 abbrev pub fromColumn : ℕ → List ℕ
 fromColumn column = letters " column " ++ decimal column (letters "\n")
 
+-- the end of a refusal's line, from its line on
 abbrev pub fromLine : (line column : ℕ) → List ℕ
 fromLine line column = letters " line " ++ decimal line (fromColumn column)
 
+-- the end of a refusal's line, from its place on
 abbrev pub fromPlace : (place line column : ℕ) → List ℕ
 fromPlace place line column = letters " at " ++ decimal place (fromLine line column)

@@ -1,24 +1,24 @@
 -- What a normal text has between quotes and brackets is read back: a string's characters, a set's spans.
 -- Assumes nothing.
 use mathlib.Core.Path.{_≡_, refl, sym, _∙_, ap, subst}
-use mathlib.Core.Bool.{Bool, true, false, _&&_, _||_, not, and-false}
+use mathlib.Core.Bool.{true, false, _&&_, _||_, not, and-false}
 use mathlib.Core.List.{List, [], _∷_, _++_, map, append-assoc}
-use mathlib.Core.Option.{Option, none, some}
+use mathlib.Core.Option.{Option, some}
 use Prim.Native.Nat.{ℕ, zero, suc, _+_, _-_, _*_, _/_, _%_, _≤_, _<_}
 use native.Mathlib.Omega.{arith}
 use native.Mathlib.Decide.{decLt}
-use lib.Dec.{eqb, ltb, leb}
-use lib.ListN.{length, drop}
+use lib.Dec.{eqb}
+use lib.ListN.{drop}
 use lib.Seq.{drop-drop}
-use borrow.Author.Tests.{lt-ltb, le-ltb, eq-eqb, ne-eqb, eqb-true}
-use Rattle.basics.specs.Basics.{if_then_else_, is, among, letters, head}
-use Rattle.basics.proofs.Tests.{cases, within-yes, within-hi}
+use borrow.Author.Tests.{lt-ltb, le-ltb, ne-eqb, eqb-true}
+use Rattle.basics.specs.Basics.{is, letters, head}
+use Rattle.basics.proofs.Tests.{cases, both-false, within-yes, within-hi}
 use Rattle.characters.specs.Utf8.{isScalar}
 use Rattle.characters.specs.Spans.{Span, _upto_}
 use Rattle.characters.specs.Classes.{isLineTerminator}
 use Rattle.characters.proofs.Encode.{scalar-top}
 use Rattle.lexer.specs.Tokens.{never}
-use Rattle.lexer.specs.Escapes.{Escape, further, scalar, untilBrace, braced, control, escape, Atom, escapedBy, atomsFrom, atoms, decodeString}
+use Rattle.lexer.specs.Escapes.{Escape, further, scalar, untilBrace, braced, control, escape, Atom, atomsFrom, atoms, decodeString}
 use Rattle.lexer.specs.Escapes as E
 use Rattle.lexer.specs.Sets.{rangeEnd, written, spans}
 use Rattle.lexer.proofs.Escaped.{until-on, until-end, atoms-skip, atoms-plain, atoms-escaped}
@@ -28,9 +28,6 @@ use Rattle.spelling.specs.Spelling.{quoted, hexDigit, hexFrom, codeText,
 
 -- ------------------------------------------------------------------ strings
 
-special : ℕ → Bool
-special c = is "\"" c || is "\\" c
-
 pub quoted-yes : (c : ℕ) (cs : List ℕ) → (is "\"" c || is "\\" c) ≡ true → quoted (c ∷ cs) ≡ 0x5C ∷ c ∷ quoted cs
 unfolding quoted
 quoted-yes c cs e = rw (e, quoted)
@@ -38,10 +35,6 @@ quoted-yes c cs e = rw (e, quoted)
 pub quoted-no : (c : ℕ) (cs : List ℕ) → (is "\"" c || is "\\" c) ≡ false → quoted (c ∷ cs) ≡ c ∷ quoted cs
 unfolding quoted
 quoted-no c cs e = rw (e, quoted)
-
-or-false : (a b : Bool) → (a || b) ≡ false → (a ≡ false) × (b ≡ false)
-or-false true b e = ((cc), (cc))
-or-false false b e = (refl, e)
 
 -- of the two characters that a backslash stands before
 pub by-special {ℓ} : (P : ℕ → Type ℓ) (c : ℕ) → (is "\"" c || is "\\" c) ≡ true → P 0x22 → P 0x5C → P c
@@ -70,7 +63,7 @@ decode-back [] = refl
 decode-back (c ∷ cs) =
     cases (is "\"" c || is "\\" c)
     (λ e. rw (quoted-yes c cs e) (ap chars (atoms-quoted c (quoted cs) e) ∙ ap (λ (l : List ℕ). c ∷ l) (decode-back cs)))
-    (λ e. rw (quoted-no c cs e) (ap chars (atoms-plain c (quoted cs) (or-false (is "\"" c) (is "\\" c) e .1)) ∙ ap (λ (l : List ℕ). c ∷ l) (decode-back cs)))
+    (λ e. rw (quoted-no c cs e) (ap chars (atoms-plain c (quoted cs) (both-false (is "\"" c) (is "\\" c) e .1)) ∙ ap (λ (l : List ℕ). c ∷ l) (decode-back cs)))
 
 -- and ends where it should
 pub quoted-body : (cs : List ℕ) → Body isLineTerminator 0x22 (quoted cs)
@@ -79,7 +72,7 @@ quoted-body [] = b-none
 quoted-body (c ∷ cs) =
     cases (is "\"" c || is "\\" c)
     (λ e. rw (quoted-yes c cs e) (b-escaped (by-special (λ (x : ℕ). isLineTerminator x ≡ false) c e refl refl) (quoted-body cs)))
-    (λ e. let p = or-false (is "\"" c) (is "\\" c) e in rw (quoted-no c cs e) (b-plain (p .0) (p .1) (quoted-body cs)))
+    (λ e. let p = both-false (is "\"" c) (is "\\" c) e in rw (quoted-no c cs e) (b-plain (p .0) (p .1) (quoted-body cs)))
 
 -- ------------------------------------------------------------------ hexadecimal
 

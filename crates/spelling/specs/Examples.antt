@@ -3,7 +3,7 @@
 use Prim.Native.Nat.{ℕ}
 use Prim.Native.String.{String}
 use mathlib.Core.Path.{_≡_, refl}
-use mathlib.Core.Bool.{Bool, true, false}
+use mathlib.Core.Bool.{true, false}
 use mathlib.Core.List.{List, [], _∷_}
 use Rattle.basics.specs.Basics.{letters, same}
 use Rattle.characters.specs.Utf8.{isScalar, encode, encodeAll}
@@ -19,6 +19,7 @@ use Rattle.notation.specs.Parser.{Answer, read, refused}
 use Rattle.notation.specs.Declarations.{parseGrammar}
 use Rattle.spelling.specs.NormalText.{normalText}
 
+-- the normal text of what was read
 abbrev textOf : Answer ℕ (GrammarDeclaration ℕ) → List ℕ
 textOf (read g ts) = normalText g
 textOf (refused n p) = []
@@ -37,6 +38,7 @@ unfolding same encode encodeAll again
 changed [] = []
 changed (s ∷ ss) = elim (same (again s) (encodeAll (letters s))) [ true ↦ changed ss | false ↦ s ∷ changed ss ]
 
+-- normal texts
 abbrev pub table : List String
 table =
     -- brackets: a choice in a sequence, a sequence under a repeat, a choice in a choice
@@ -54,6 +56,7 @@ table =
     ∷ "@top T { t }\n@tokens { t { $[\\u{41}\\u{61}-\\u{7A}] } }\n"
     ∷ []
 
+-- each comes out as it went in
 pub none-changed : changed table ≡ []
 unfolding changed
 none-changed = refl

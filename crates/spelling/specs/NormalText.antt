@@ -9,7 +9,7 @@ use mathlib.Core.Option.{Option, none, some}
 use Rattle.basics.specs.Basics.{letters}
 use Rattle.characters.specs.Utf8.{encodeAll}
 use Rattle.lexer.specs.Tokens.{Kind}
-use Rattle.tree.specs.Syntax.{Identifier, PropPart, value, name, Prop, ConflictMarkerKind, ambiguity, precedence, ConflictMarker, SpecializeKind, extend, specialize, RepeatKind, optional, zeroOrMore, oneOrMore, CharClass, asciiLetter, asciiLowercase, asciiUppercase, digit, whitespace, eof, Expression, special, inline, choice, sequence, empty, repeat, set, any, class, Expressions, []ᴱ, _∷ᴱ_, Slots, last, slot, RuleDeclaration, TokenReference, referred, TokenPrecDeclaration, TokenConflictDeclaration, LiteralDeclaration, NamedNode, TokenDeclaration, LocalTokenDeclaration, ContextDeclaration, ExternalTokenDeclaration, ExternalSpecializeDeclaration, ExternalPropSourceDeclaration, ExternalPropDeclaration, PrecKind, left, right, cut, PrecItem, PrecDeclaration, ScopedSkipDeclaration, Declaration, topRule, rule, tokens, localTokens, context, externalTokens, externalSpecializer, externalPropSource, precedences, mainSkip, scopedSkip, GrammarDeclaration}
+use Rattle.tree.specs.Syntax.{Identifier, PropPart, value, name, Prop, ConflictMarkerKind, ambiguity, precedence, ConflictMarker, SpecializeKind, extend, specialize, RepeatKind, optional, zeroOrMore, oneOrMore, CharClass, asciiLetter, asciiLowercase, asciiUppercase, digit, whitespace, eof, Expression, special, inline, choice, sequence, empty, repeat, set, any, class, Expressions, []ᴱ, _∷ᴱ_, Slots, last, slot, RuleDeclaration, TokenReference, referred, TokenPrecDeclaration, TokenConflictDeclaration, LiteralDeclaration, NamedNode, ExternalPropDeclaration, PrecKind, left, right, cut, PrecItem, Declaration, topRule, rule, tokens, localTokens, context, externalTokens, externalSpecializer, externalPropSource, precedences, mainSkip, scopedSkip, GrammarDeclaration}
 use Rattle.spelling.specs.Spelling.{quoted, hexFrom, codeText, spanText, spansText, spell, spaced}
 
 -- tokens in front of others
@@ -18,18 +18,23 @@ Tokens = List Kind → List Kind
 
 -- ------------------------------------------------------------------ single tokens and lists
 
+-- a mark
 abbrev pub mark : Char → Tokens
 mark c ks = Kind.mark (code c) ∷ ks
 
+-- a quoted word
 abbrev pub word : String → Tokens
 word s ks = Kind.name (letters s) ∷ ks
 
+-- a quoted word after an `@`
 abbrev pub at : String → Tokens
 at s ks = Kind.at (letters s) ∷ ks
 
+-- a text as a string
 abbrev pub string : List ℕ → Tokens
 string t ks = Kind.string (quoted t) ∷ ks
 
+-- a name of the tree
 abbrev pub identifier : {S : Type 0} → Identifier S → Tokens
 identifier n ks = Kind.name (n .name) ∷ ks
 
@@ -56,23 +61,28 @@ module _ {A : Type 0} (write : A → Tokens) where
 
 -- ------------------------------------------------------------------ words and marks of the tree's small types
 
+-- the name of a prop, after an `@` or not
 abbrev pub propName : (at : Bool) → List ℕ → Kind
 propName true t = Kind.at t
 propName false t = Kind.name t
 
+-- the mark of a marker
 abbrev pub markerSign : ConflictMarkerKind → Char
 markerSign ambiguity = "~"
 markerSign precedence = "!"
 
+-- the word of a specialize
 abbrev pub specializeWord : SpecializeKind → String
 specializeWord extend = "extend"
 specializeWord specialize = "specialize"
 
+-- the mark of a repeat
 abbrev pub repeatSign : RepeatKind → Char
 repeatSign optional = "?"
 repeatSign zeroOrMore = "*"
 repeatSign oneOrMore = "+"
 
+-- the name of a class
 abbrev pub className : CharClass → String
 className asciiLetter = "asciiLetter"
 className asciiLowercase = "asciiLowercase"
@@ -81,6 +91,7 @@ className digit = "digit"
 className whitespace = "whitespace"
 className eof = "eof"
 
+-- how an item associates, if it does
 abbrev pub precTokens : Option PrecKind → Tokens
 precTokens none ks = ks
 precTokens (some left) ks = at "left" ks
@@ -91,6 +102,7 @@ precTokens (some cut) ks = at "cut" ks
 abbrev pub fromTokens : (id source : List ℕ) → Tokens
 fromTokens n s ks = Kind.name n ∷ word "from" (string s ks)
 
+-- the line of `@detectDelim`, if it is there
 abbrev pub detectLines : Bool → List (List Kind)
 detectLines false = []
 detectLines true = at "detectDelim" [] ∷ []
@@ -113,14 +125,17 @@ module _ {S : Type 0} where
   valueTokens [] ks = ks
   valueTokens (x ∷ xs) ks = mark "=" (each partTokens (x ∷ xs) ks)
 
+  -- a prop: its name, and its parts after a `=`
   abbrev pub propTokens : Prop S → Tokens
   propTokens x ks = propName (x .at) (x .name) ∷ valueTokens (x .value) ks
 
+  -- props in their brackets
   abbrev pub propsTokens : List (Prop S) → Tokens
   propsTokens ps ks = bracketed propTokens "[" "]" ps ks
 
   -- ------------------------------------------------------------------ expressions
 
+  -- a choice
   abbrev pub isChoice : Expression S → Bool
   isChoice (choice p es) = true
   isChoice (sequence p s) = false
@@ -148,11 +163,13 @@ module _ {S : Type 0} where
   isSequence (any p) = false
   isSequence (class p c) = false
 
+  -- a marker: its mark and its name
   abbrev pub markerTokens : ConflictMarker S → Tokens
   markerTokens m ks = mark (markerSign (m .kind)) (Kind.name (m .name) ∷ ks)
 
   -- Round brackets stand around a choice in a choice, and around a choice or a sequence in a sequence or a repeat
   unfoldable mutual
+    -- an expression
     pub expressionTokens : Expression S → Tokens
     expressionTokens (Expression.name p t es) ks = Kind.name t ∷ argumentsTokens es ks
     expressionTokens (special p k ps e f) ks =
@@ -172,18 +189,22 @@ module _ {S : Type 0} where
     argumentsTokens []ᴱ ks = ks
     argumentsTokens (e ∷ᴱ es) ks = mark "<" (expressionTokens e (moreArguments es ks))
 
+    -- the arguments after the first, and the closing mark
     pub moreArguments : Expressions S → Tokens
     moreArguments []ᴱ ks = mark ">" ks
     moreArguments (e ∷ᴱ es) ks = mark "," (expressionTokens e (moreArguments es ks))
 
+    -- the arms of a choice
     pub armsTokens : Expressions S → Tokens
     armsTokens []ᴱ ks = ks
     armsTokens (e ∷ᴱ es) ks = bracketIf (isChoice e) (λ l. expressionTokens e l) (moreArms es ks)
 
+    -- the arms after the first
     pub moreArms : Expressions S → Tokens
     moreArms []ᴱ ks = ks
     moreArms (e ∷ᴱ es) ks = mark "|" (bracketIf (isChoice e) (λ l. expressionTokens e l) (moreArms es ks))
 
+    -- the slots of a sequence
     pub slotsTokens : Slots S → Tokens
     slotsTokens (last ms) ks = each markerTokens ms ks
     slotsTokens (slot ms e s) ks = each markerTokens ms (bracketIf (isChoice e || isSequence e) (λ l. expressionTokens e l) (slotsTokens s ks))
@@ -194,32 +215,41 @@ module _ {S : Type 0} where
   abbrev pub bodyTokens : Expression S → Tokens
   bodyTokens e ks = mark "{" (expressionTokens e (mark "}" ks))
 
+  -- a rule
   abbrev pub ruleTokens : RuleDeclaration S → Tokens
   ruleTokens r ks = identifier (r .id) (propsTokens (r .props) (bracketed identifier "<" ">" (r .params) (bodyTokens (r .expression) ks)))
 
+  -- a top rule
   abbrev pub topRuleTokens : RuleDeclaration S → Tokens
   topRuleTokens r ks = at "top" (ruleTokens r ks)
 
+  -- a name or a literal
   abbrev pub referenceTokens : TokenReference S → Tokens
   referenceTokens r ks = expressionTokens (referred r) ks
 
+  -- `@precedence` in a block of tokens
   abbrev pub tokenPrecTokens : TokenPrecDeclaration S → Tokens
   tokenPrecTokens x ks = at "precedence" (mark "{" (commas referenceTokens (x .items) (mark "}" ks)))
 
+  -- `@conflict` in a block of tokens
   abbrev pub tokenConflictTokens : TokenConflictDeclaration S → Tokens
   tokenConflictTokens x ks =
       at "conflict" (mark "{" (referenceTokens (x .left) (mark "," (referenceTokens (x .right) (mark "}" ks)))))
 
+  -- a literal in `@tokens`
   abbrev pub literalTokens : LiteralDeclaration S → Tokens
   literalTokens x ks = string (x .literal) (propsTokens (x .props) ks)
 
+  -- a named node
   abbrev pub namedNodeTokens : NamedNode S → Tokens
   namedNodeTokens x ks = identifier (x .id) (propsTokens (x .props) ks)
 
+  -- `@else` and its node, if there is one
   abbrev pub fallbackTokens : Option (NamedNode S) → Tokens
   fallbackTokens none ks = ks
   fallbackTokens (some x) ks = at "else" (namedNodeTokens x ks)
 
+  -- an item of `@precedence`
   abbrev pub precItemTokens : PrecItem S → Tokens
   precItemTokens x ks = identifier (x .id) (precTokens (x .kind) ks)
 
@@ -234,6 +264,7 @@ module _ {S : Type 0} where
   externalSetTokens [] (n ∷ ns) ks = mark "{" (conflictsTokens (n ∷ ns) (mark "}" ks))
   externalSetTokens (x ∷ xs) (n ∷ ns) ks = mark "{" (commas namedNodeTokens (x ∷ xs) (mark "," (conflictsTokens (n ∷ ns) (mark "}" ks))))
 
+  -- a declaration. Lists of blocks stand in the order of the records
   unfoldable pub declarationTokens : Declaration S → Tokens
   declarationTokens (topRule r) ks = topRuleTokens r ks
   declarationTokens (rule r) ks = ruleTokens r ks
@@ -258,6 +289,7 @@ module _ {S : Type 0} where
   dialectsLines [] = []
   dialectsLines (n ∷ ns) = at "dialects" (mark "{" (commas identifier (n ∷ ns) (mark "}" []))) ∷ []
 
+  -- `@external prop`; `as` is always written
   unfoldable pub externalPropTokens : ExternalPropDeclaration S → Tokens
   externalPropTokens x ks = at "external" (word "prop" (identifier (x .externalId) (word "as" (fromTokens (x .id) (x .source) ks))))
 
@@ -277,6 +309,7 @@ unfoldable pub linesText : List (List Kind) → List ℕ
 linesText [] = []
 linesText (l ∷ ls) = spaced l ++ (code "\n" ∷ linesText ls)
 
+-- the normal text of a grammar, in bytes
 unfoldable pub normalText : {S : Type 0} → GrammarDeclaration S → List ℕ
 unfolding encodeAll spell spaced lines linesText
 normalText g = encodeAll (linesText (lines g))

@@ -1,7 +1,7 @@
 -- How tokens are spelled in a normal text: strings, spans of sets, and the space between tokens.
 -- Assumes nothing.
 use Prim.Native.Nat.{ℕ, zero, suc, _+_, _-_, _/_, _%_}
-use Prim.Native.Char.{Char, code}
+use Prim.Native.Char.{code}
 use mathlib.Core.Bool.{Bool, true, false, _||_}
 use mathlib.Core.List.{List, [], _∷_, _++_}
 use lib.Dec.{ltb, eqb}
@@ -33,10 +33,12 @@ spanText s =
     if eqb (s .first + 1) (s .past) then codeText (s .first)
     else codeText (s .first) ++ letters "-" ++ codeText (s .past - 1)
 
+-- spans, one after another
 unfoldable pub spansText : List Span → List ℕ
 spansText [] = []
 spansText (s ∷ ss) = spanText s ++ spansText ss
 
+-- the mark that a set begins with
 abbrev pub opening : (inverted : Bool) → List ℕ
 opening false = letters "$["
 opening true = letters "!["

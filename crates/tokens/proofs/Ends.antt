@@ -1,14 +1,14 @@
 -- Where the tokens of a text end.
 -- Assumes nothing.
 use Prim.Native.Nat.{ℕ, zero, suc, _+_, _-_, _≤_}
-use native.Mathlib.Omega.{arith}
 use mathlib.Core.Path.{_≡_}
 use mathlib.Core.List.{List, [], _∷_}
 use lib.ListN.{length}
+use Rattle.basics.proofs.Tests.{impossible}
 use Rattle.characters.specs.Utf8.{width}
 use Rattle.characters.specs.Places.{charsAt, past}
 use Rattle.characters.proofs.Chars.{run-at}
-use Rattle.lexer.specs.Tokens.{Tokens, token, eof, bad, Piece, piece, lay, tokensFrom}
+use Rattle.lexer.specs.Tokens.{token, eof, bad, Piece, piece, lay, tokensFrom}
 use Rattle.lexer.specs.Tokens as T
 use Rattle.lexer.specs.Promise.{tokensAt}
 
@@ -22,8 +22,8 @@ eof-past (c ∷ cs) zero at {p} e = by (λ k h. eof-past cs k (at + width c) h) 
     by : ((k : ℕ) → tokensFrom cs k (at + width c) ≡ eof p → p ≡ past (at + width c) (length cs) cs) → (x : Piece) → lay x at (λ k. tokensFrom cs k (at + width c)) ≡ eof p
         → p ≡ past (at + width c) (length cs) cs
     by f (T.blank n) h = f (n - 1) h
-    by f (T.token k n) h = absurd (let z : _≡_ {A = ℕ} 0 1 = cc in omega arith)
-    by f (T.bad n) h = absurd (let z : _≡_ {A = ℕ} 0 1 = cc in omega arith)
+    by f (T.token k n) h = impossible (cc)
+    by f (T.bad n) h = impossible (cc)
 
 pub eof-inside : (s : List ℕ) (from : ℕ) {p : ℕ} → tokensAt s from ≡ eof p → from ≤ length s → p ≤ length s
 unfolding tokensAt

@@ -1,14 +1,13 @@
 -- One step along the tokens of a text.
 -- Assumes nothing.
-use Prim.Native.Nat.{ℕ, _≤_, _<_}
-use Prim.Native.Char.{Char, code}
+use Prim.Native.Nat.{ℕ, _≤_}
 use lib.Dec.{eqb}
-use borrow.Author.Tests.{eq-eqb, ne-eqb}
+use borrow.Author.Tests.{not-true, not-false}
 use lib.ListN.{length}
-use Rattle.basics.specs.Basics.{is, same, letters}
+use Rattle.basics.specs.Basics.{same}
 use Rattle.characters.specs.Places.{cut}
 use Rattle.lexer.proofs.Spelled.{spells-codes}
-use mathlib.Core.Path.{_≡_, refl, ap, sym, _∙_}
+use mathlib.Core.Path.{_≡_, refl, ap, sym}
 use mathlib.Core.Bool.{Bool, true, false, not}
 use mathlib.Core.List.{List}
 use mathlib.Core.Option.{Option, none, some}
@@ -21,13 +20,13 @@ use Rattle.error.specs.Promise.{causeNumber}
 use Rattle.lexer.specs.declared.Cause as LexerCause
 use Rattle.lexer.specs.declared.Lexed.{Lexed}
 use Rattle.lexer.specs.declared.Lexed.the-variants as L
-use Rattle.lexer.specs.Promise.{tokensAt, number, answer, Placed, Reads}
-use Rattle.notation.specs.Parser.{Answer, read, refused, andThen, _>>=_, pure, startOf, kindOf, kind, markIn, nameIn, atIn, stringIn, here, refuseHere, taken, parseIdentifier, expectString, arrive, next, eatIf, eat, eatName, eatAt, must, expect}
+use Rattle.lexer.specs.Promise.{tokensAt, number, Reads}
+use Rattle.notation.specs.Parser.{andThen, _>>=_, pure, startOf, kindOf, kind, markIn, nameIn, atIn, stringIn, here, refuseHere, taken, parseIdentifier, expectString, arrive, next, eatIf, eat, eatName, eatAt, must, expect}
 use Rattle.tokens.specs.declared.Current.{Current}
 use Rattle.tokens.specs.declared.Current.the-variants.{Token, End}
 use Rattle.tokens.specs.declared.Arrived.{Arrived}
 use Rattle.tokens.specs.declared.Arrived.the-variants.{At, Refused}
-use Rattle.tokens.specs.Promise.{stream, startIn, endIn, codeIn, markOf, arrival, LiesIn, Lies, eaten, EatsIf, Eats, EatsName, EatsAt, Expects, nameOf, atOf, stringOf, textIn, Whole, Says, takenBy, mapped, Takes, Identifies, TakesString}
+use Rattle.tokens.specs.Promise.{stream, startIn, endIn, markOf, arrival, LiesIn, Lies, EatsIf, Eats, EatsName, EatsAt, Expects, nameOf, atOf, stringOf, textIn, Whole, Says, takenBy, mapped, Takes, Identifies, TakesString}
 use Rattle.tokens.specs.declared.Taken.{Taken}
 use Rattle.tokens.specs.declared.Taken.the-variants as G
 use Rattle.lexer.specs.Escapes.{decodeString}
@@ -37,14 +36,6 @@ use Rattle.tokens.specs.declared.Part.the-variants.{From, Nothing}
 use Rattle.tokens.specs.declared.Eaten.{Eaten}
 use Rattle.tokens.proofs.Ends.{eof-inside}
 use Rattle.tokens.specs.declared.Eaten.the-variants as E
-
-not-true : (b : Bool) → not b ≡ true → b ≡ false
-not-true true e = sym e
-not-true false e = refl
-
-not-false : (b : Bool) → not b ≡ false → b ≡ true
-not-false true e = refl
-not-false false e = sym e
 
 -- what the lexer's answer is for the parser, by its variant
 module _ (s : List ℕ) (from : ℕ) (l : Lexed) (r : Reads s from l) where

@@ -37,15 +37,17 @@ unfoldable pub stream : List ℕ → Current → Tokens ℕ
 stream s (Token k start end) = T.token (kindIn s k) start (tokensAt s end)
 stream s (End p) = T.eof p
 
--- its start, its end, and the code of its mark, or 0
+-- its start; of the end of the text, its place
 abbrev pub startIn : Current → ℕ
 startIn (Token k start end) = start
 startIn (End p) = p
 
+-- its end; of the end of the text, its place
 abbrev pub endIn : Current → ℕ
 endIn (Token k start end) = end
 endIn (End p) = p
 
+-- the code of a mark, or 0
 abbrev pub codeIn : Kind → ℕ
 codeIn (Punctuation c) = c
 codeIn (String q a e) = 0
@@ -53,6 +55,7 @@ codeIn (K.At a e) = 0
 codeIn (Set i a e) = 0
 codeIn (Identifier a e) = 0
 
+-- the code of the current token's mark, or 0
 abbrev pub markOf : Current → ℕ
 markOf (Token k start end) = codeIn k
 markOf (End p) = 0
@@ -84,6 +87,7 @@ abbrev pub LiesIn : List ℕ → ℕ → Current → Type 0
 LiesIn s from (Token k start end) = (from ≤ start) × (start < end) × (end ≤ length s) × Parted s start k × Inside start end k
 LiesIn s from (End p) = from ≤ length s → p ≤ length s
 
+-- the token that is arrived at lies in the text, from a place on
 abbrev pub Lies : List ℕ → ℕ → Arrived → Type 0
 Lies s from (At t) = LiesIn s from t
 Lies s from (Refused c p) = Unit {0}
@@ -94,6 +98,7 @@ eaten s t (E.Yes u) = read true (stream s u)
 eaten s t E.No = read false (stream s t)
 eaten s t (E.Refused c p) = refused (causeNumber c) p
 
+-- the token after the one that was taken lies in the text, from a place on
 abbrev pub EatenLies : List ℕ → ℕ → Eaten → Type 0
 EatenLies s from (E.Yes u) = LiesIn s from u
 EatenLies s from E.No = Unit {0}
@@ -109,13 +114,14 @@ pub record Eats (s : List ℕ) (t : Current) (c : ℕ) (r : Eaten) : Type 0 wher
   pub eats : (m : Char) → code m ≡ c → eat m (stream s t) ≡ eaten s t r
   pub lies : EatenLies s (endIn t) r
 
+-- the mark with the code c is taken; another token is refused
 pub record Expects (s : List ℕ) (t : Current) (c : ℕ) (r : Arrived) : Type 0 where
   pub expects : (m : Char) → code m ≡ c → expect m (stream s t) ≡ arrival s r
   pub lies : Lies s (endIn t) r
 
 -- ------------------------------------------------------------------ names
 
--- the part of the source that is a name, that follows an `@`, and between a string's quotes
+-- the part of the source that is a name
 abbrev pub namePart : Kind → Part
 namePart (Identifier a e) = From a e
 namePart (String q a e) = Nothing
@@ -123,6 +129,7 @@ namePart (K.At a e) = Nothing
 namePart (Set i a e) = Nothing
 namePart (Punctuation c) = Nothing
 
+-- the part of the source that follows an `@`
 abbrev pub atPart : Kind → Part
 atPart (K.At a e) = From a e
 atPart (String q a e) = Nothing
@@ -130,6 +137,7 @@ atPart (Set i a e) = Nothing
 atPart (Punctuation c) = Nothing
 atPart (Identifier a e) = Nothing
 
+-- the part of the source between a string's quotes
 abbrev pub stringPart : Kind → Part
 stringPart (String q a e) = From a e
 stringPart (K.At a e) = Nothing
@@ -137,14 +145,17 @@ stringPart (Set i a e) = Nothing
 stringPart (Punctuation c) = Nothing
 stringPart (Identifier a e) = Nothing
 
+-- the current token's name
 abbrev pub nameOf : Current → Part
 nameOf (Token k start end) = namePart k
 nameOf (End p) = Nothing
 
+-- what follows the current token's `@`
 abbrev pub atOf : Current → Part
 atOf (Token k start end) = atPart k
 atOf (End p) = Nothing
 
+-- what stands between the current token's quotes
 abbrev pub stringOf : Current → Part
 stringOf (Token k start end) = stringPart k
 stringOf (End p) = Nothing
@@ -163,11 +174,12 @@ Whole s Nothing = Unit {0}
 pub record Says (s : List ℕ) (part : Part) (word : List ℕ) (r : Bool) : Type 0 where
   pub said : (w : Quoted) → letters w ≡ word → isPlain word ≡ true → says w (textIn s part) ≡ r
 
--- the name, or the word after an `@`, is taken if it is the current token
+-- the name is taken if it is the current token
 pub record EatsName (s : List ℕ) (t : Current) (word : List ℕ) (r : Eaten) : Type 0 where
   pub eats : (w : Quoted) → letters w ≡ word → isPlain word ≡ true → eatName w (stream s t) ≡ eaten s t r
   pub lies : EatenLies s (endIn t) r
 
+-- the word after an `@` is taken if it is the current token
 pub record EatsAt (s : List ℕ) (t : Current) (word : List ℕ) (r : Eaten) : Type 0 where
   pub eats : (w : Quoted) → letters w ≡ word → isPlain word ≡ true → eatAt w (stream s t) ≡ eaten s t r
   pub lies : EatenLies s (endIn t) r
@@ -184,6 +196,7 @@ abbrev pub takenBy : {A : Type 0} → (List ℕ → A) → List ℕ → Taken �
 takenBy f s (G.Got a e u) = read (f (partOf s a e)) (stream s u)
 takenBy f s (G.Refused c p) = refused (causeNumber c) p
 
+-- a value made of a text, if there is one
 abbrev pub mapped : (List ℕ → List ℕ) → Option (List ℕ) → Option (List ℕ)
 mapped f (some t) = some (f t)
 mapped f none = none
@@ -193,10 +206,12 @@ pub record Takes (s : List ℕ) (t : Current) (part : Part) (r : Taken) : Type 0
   pub takes : (f : List ℕ → List ℕ) → taken (mapped f (textIn s part)) (stream s t) ≡ takenBy f s r
   pub lies : TakenLies s t part r
 
+-- a name is taken, and another token refused: `parse_identifier`
 pub record Identifies (s : List ℕ) (t : Current) (r : Taken) : Type 0 where
   pub takes : parseIdentifier (stream s t) ≡ takenBy (λ n. record { start = startIn t; name = n }) s r
   pub lies : TakenLies s t (nameOf t) r
 
+-- a string is taken, and another token refused: `expect_string`
 pub record TakesString (s : List ℕ) (t : Current) (r : Taken) : Type 0 where
   pub takes : expectString (stream s t) ≡ takenBy decodeString s r
   pub lies : TakenLies s t (stringOf t) r

@@ -6,8 +6,8 @@ use mathlib.Core.Path.{_≡_, refl, ap, sym, _∙_}
 use mathlib.Core.List.{List, [], _∷_, _++_, map, append-assoc, append-nil}
 use lib.ListN.{length, take, drop, length-append, length-take, length-drop}
 use Rattle.tree.specs.Records.{Row, Branch, branch, Branches, []ᴮ, _∷ᴮ_, count, Node, nodes, nodesAll}
-use Rattle.tree.specs.OneTree.{kindOf, inOrder, rowOf}
-use Rattle.tree.specs.Promise.{wordAt, recordAt, nodeAt, At, All, firstOf, kindBefore, kindsBack}
+use Rattle.tree.specs.OneTree.{kindOf, inOrder}
+use Rattle.tree.specs.Promise.{wordAt, nodeAt, At, All, firstOf, kindBefore, kindsBack}
 
 -- ------------------------------------------------------------------ one record back
 

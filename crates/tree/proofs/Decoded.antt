@@ -12,7 +12,7 @@ use lib.ListN.{length, take, drop, length-append, length-take, length-drop}
 use lib.Seq.{take-add}
 use borrow.Author.Tests.{eqb-true, ne-eqb, leb-true}
 use Rattle.basics.specs.Basics.{same}
-use Rattle.basics.proofs.Tests.{cases, both-true}
+use Rattle.basics.proofs.Tests.{cases, both-true, impossible}
 use Rattle.basics.proofs.Same.{same-refl}
 use Rattle.characters.specs.Places.{cut}
 use Rattle.tree.specs.Records.{Branch, Node, nodes, Record, placeOf, recordOf, recordsFrom, wordsOf, words, textsOf, records, texts}
@@ -117,23 +117,20 @@ module _ (ts : List ℕ) where
 
 -- ------------------------------------------------------------------ the whole tree
 
-clash : {A : Type 0} {rs : List Record} → none ≡ some rs → A
-clash e = absurd (let z : _≡_ {A = ℕ} 0 1 = cc in omega arith)
-
 onto-back : (r : Record) (ws : List ℕ) (rs : List Record) (o : Option (List Record)) → ((qs : List Record) → o ≡ some qs → words qs ≡ ws) → onto r o ≡ some rs → words rs ≡ wordsOf r ++ ws
 unfolding words
-onto-back r ws rs none h e = clash e
+onto-back r ws rs none h e = impossible (cc)
 onto-back r ws rs (some qs) h e = let f : r ∷ qs ≡ rs = cc in rw (← f) (ap (λ l. wordsOf r ++ l) (h qs refl))
 
 words-in : (ws : List ℕ) (rs : List Record) → recordsIn ws ≡ some rs → words rs ≡ ws
 unfolding recordsIn words
 words-in [] rs e = let f : [] ≡ rs = cc in rw (← f) refl
-words-in (a ∷ []) rs e = clash e
-words-in (a ∷ b ∷ []) rs e = clash e
-words-in (a ∷ b ∷ c ∷ []) rs e = clash e
-words-in (a ∷ b ∷ c ∷ d ∷ []) rs e = clash e
-words-in (a ∷ b ∷ c ∷ d ∷ f ∷ []) rs e = clash e
-words-in (a ∷ b ∷ c ∷ d ∷ f ∷ g ∷ []) rs e = clash e
+words-in (a ∷ []) rs e = impossible (cc)
+words-in (a ∷ b ∷ []) rs e = impossible (cc)
+words-in (a ∷ b ∷ c ∷ []) rs e = impossible (cc)
+words-in (a ∷ b ∷ c ∷ d ∷ []) rs e = impossible (cc)
+words-in (a ∷ b ∷ c ∷ d ∷ f ∷ []) rs e = impossible (cc)
+words-in (a ∷ b ∷ c ∷ d ∷ f ∷ g ∷ []) rs e = impossible (cc)
 words-in (a ∷ b ∷ c ∷ d ∷ f ∷ g ∷ h ∷ ws) rs e =
     onto-back (record { kind = a; start = b; place = c; size = d; value = f; second = g; children = h }) ws rs (recordsIn ws) (λ qs q. words-in ws qs q) e
 
@@ -176,8 +173,8 @@ size-agrees r q h =
 sizes-agree : (rs qs : List Record) → allAgreeing rs qs ≡ true → sizes rs ≡ sizes qs
 unfolding allAgreeing sizes
 sizes-agree [] [] h = refl
-sizes-agree [] (q ∷ qs) h = let z : _≡_ {A = ℕ} 0 1 = cc in absurd (omega arith)
-sizes-agree (r ∷ rs) [] h = let z : _≡_ {A = ℕ} 0 1 = cc in absurd (omega arith)
+sizes-agree [] (q ∷ qs) h = impossible (cc)
+sizes-agree (r ∷ rs) [] h = impossible (cc)
 sizes-agree (r ∷ rs) (q ∷ qs) h =
     let a = both-true (agreeing r q) (allAgreeing rs qs) h in
     omega (arith, size-agrees r q (a .0), sizes-agree rs qs (a .1))

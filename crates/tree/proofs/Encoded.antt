@@ -1,19 +1,18 @@
 -- The records and texts of a branch that fits are one tree, and it is that branch.
 -- Assumes nothing.
-use Prim.Native.Nat.{ℕ, zero, suc, _+_, _-_, _≤_}
+use Prim.Native.Nat.{ℕ, _+_, _-_, _≤_}
 use native.Mathlib.Omega.{arith}
 use mathlib.Core.Path.{_≡_, refl, ap, sym, _∙_}
 use mathlib.Core.Bool.{Bool, true, false, _&&_, _||_}
 use mathlib.Core.List.{List, [], _∷_, _++_, map, append-assoc, append-nil}
-use mathlib.Core.Option.{Option, none, some}
+use mathlib.Core.Option.{some}
 use lib.Dec.{eqb, leb}
 use lib.ListN.{length, take, drop, length-append, length-drop}
 use lib.Seq.{take-append-seam, drop-append-seam, drop-drop}
 use borrow.Author.Tests.{eq-eqb, ne-eqb, le-leb}
-use Rattle.basics.specs.Basics.{if_then_else_}
 use Rattle.characters.specs.Places.{cut}
 use Rattle.tree.specs.Records.{Row, Branch, branch, Branches, []ᴮ, _∷ᴮ_, count, Node, nodes, nodesAll, Record, placeOf, recordOf, recordsFrom, words, textsOf, records, texts}
-use Rattle.tree.specs.OneTree.{isKind, hasText, valuesFit, childrenFit, textFits, recordFits, kindOf, inOrder, rowOf, only, buildFrom, recordsIn, buildBy, rooted, build}
+use Rattle.tree.specs.OneTree.{isKind, hasText, valuesFit, childrenFit, textFits, recordFits, kindOf, inOrder, rowOf, buildFrom, recordsIn, buildBy, rooted, build}
 use Rattle.tree.proofs.Back.{before, over}
 
 -- ------------------------------------------------------------------ a stack of branches

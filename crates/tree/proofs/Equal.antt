@@ -1,6 +1,6 @@
 -- Trees are structurally equal just where their nodes are the same, one by one.
 -- Assumes nothing.
-use Prim.Native.Nat.{ℕ, zero, suc, _+_, _-_, _*_, _/_, _≤_, _<_}
+use Prim.Native.Nat.{ℕ, zero, suc, _+_, _*_, _/_, _<_}
 use native.Mathlib.Omega.{arith}
 use mathlib.Core.Path.{_≡_, refl, ap, sym, _∙_}
 use mathlib.Core.Bool.{Bool, true, false, _&&_, and-true, and-false, and-assoc, and-comm}
@@ -9,15 +9,15 @@ use mathlib.Core.Option.{Option, none, some}
 use lib.Dec.{eqb}
 use lib.ListN.{length}
 use borrow.Author.Tests.{eqb-true, eqb-false, eq-eqb, ne-eqb}
-use Rattle.basics.specs.Basics.{if_then_else_}
-use Rattle.basics.proofs.Tests.{cases}
+use Rattle.basics.proofs.Tests.{cases, impossible}
 use Rattle.tree.specs.Records.{Row, Branch, branch, Branches, []ᴮ, _∷ᴮ_, count, Node, nodes, nodesAll, width}
 use Rattle.tree.specs.OneTree.{kindOf, isExpression, rooted, build}
 use Rattle.tree.specs.Equality.{sameRow, sameBranch, sameBranches, structurallyEq}
-use Rattle.tree.specs.Promise.{countOf, wordAt, nodeAt, Inside, isSome, sameNode, comparisonOf, comparison, At, All}
+use Rattle.tree.specs.Promise.{countOf, nodeAt, Inside, isSome, sameNode, comparisonOf, comparison, All}
 use Rattle.tree.specs.declared.Comparison.{Comparison}
 use Rattle.tree.specs.declared.Comparison.the-variants as Comparison
-use Rattle.tree.proofs.Trees.{Grown, grown-first, grownOf, build-whole, build-broken, standing}
+use Rattle.tree.proofs.Trees.{grown-first, grownOf, build-whole, build-broken, none-some, standing}
+use Rattle.tree.proofs.Standing.{all-inside}
 
 -- ------------------------------------------------------------------ node by node
 
@@ -150,7 +150,7 @@ pub record Tree (root : ℕ → Bool) (ws ts : List ℕ) : Type 0 where
 
 pub rooted-some : (root : ℕ → Bool) (o : Option Branch) (b : Branch) → rooted root o ≡ some b → o ≡ some b
 rooted-some root none b e = e
-rooted-some root (some c) b e = cases (root (kindOf c)) (λ t. rw t at e) (λ t. absurd (let f : none ≡ some b = rw t at e in let z : _≡_ {A = ℕ} 0 1 = cc in omega arith))
+rooted-some root (some c) b e = cases (root (kindOf c)) (λ t. rw t at e) (λ t. none-some (rw t at e))
 
 tree-by : (root : ℕ → Bool) (ws ts : List ℕ) (b : Branch) → build root ws ts ≡ some b → Tree root ws ts
 tree-by root ws ts b e =
@@ -159,35 +159,25 @@ tree-by root ws ts b e =
     let o : grownOf ws ts (length ws / width) ≡ some b = rooted-some root (grownOf ws ts (length ws / width)) b (sym (build-whole root ws ts (length ws / width) (sym f)) ∙ e) in
     let s = standing ws ts b (length ws / width) 0 0 0 (rw o at (grown-first ws ts (length ws / width) (length ws / width) refl)) (omega arith) in
     record { top = b; is = e; all = s .0; whole = omega (arith, s .1) })
-    (λ w. absurd (let f : none ≡ some b = sym (build-broken root ws ts (eqb-false (length ws / width * width) (length ws) w)) ∙ e in let z : _≡_ {A = ℕ} 0 1 = cc in omega arith))
+    (λ w. none-some (sym (build-broken root ws ts (eqb-false (length ws / width * width) (length ws) w)) ∙ e))
 
 tree-some : (root : ℕ → Bool) (ws ts : List ℕ) (o : Option Branch) → build root ws ts ≡ o → true ≡ isSome o → Tree root ws ts
-tree-some root ws ts none e h = absurd (let z : _≡_ {A = ℕ} 0 1 = cc in omega arith)
+tree-some root ws ts none e h = impossible (cc)
 tree-some root ws ts (some b) e h = tree-by root ws ts b e
 
 pub tree-of : (root : ℕ → Bool) (ws ts : List ℕ) → true ≡ isSome (build root ws ts) → Tree root ws ts
 tree-of root ws ts h = tree-some root ws ts (build root ws ts) refl h
 
-none-some : (o : Option Branch) → false ≡ isSome o → o ≡ none
-none-some none h = refl
-none-some (some b) h = absurd (let z : _≡_ {A = ℕ} 0 1 = cc in omega arith)
+not-some : (o : Option Branch) → false ≡ isSome o → o ≡ none
+not-some none h = refl
+not-some (some b) h = impossible (cc)
 
 pub tree-not : (root : ℕ → Bool) (ws ts : List ℕ) → false ≡ isSome (build root ws ts) → build root ws ts ≡ none
-tree-not root ws ts h = none-some (build root ws ts) h
-
-lo-less : (lo i : ℕ) → lo ≤ i → (lo ≡ i → ⊥) → suc lo ≤ i
-lo-less lo i h f = omega arith
-
--- the text of each record lies in the texts
-inside-of : (ws ts : List ℕ) (xs : List Node) (lo i : ℕ) → All ws ts lo xs → lo ≤ i → i < lo + length xs → wordAt ws i 2 + wordAt ws i 3 ≤ length ts
-unfolding All
-inside-of ws ts [] lo i a h g = absurd (omega arith)
-inside-of ws ts (x ∷ xs) lo i (a, b) h g =
-    cases (eqb lo i) (λ e. rw (eqb-true lo i e) at (a .inside)) (λ e. let f = eqb-false lo i e in inside-of ws ts xs (suc lo) i b (lo-less lo i h f) (omega arith))
+tree-not root ws ts h = not-some (build root ws ts) h
 
 pub inside : {root : ℕ → Bool} {ws ts : List ℕ} (i : ℕ) → Tree root ws ts → i < countOf ws → Inside ws ts i
 inside {root} {ws} {ts} i t h =
-    record { there = h; text = inside-of ws ts (nodes (t .top)) 0 i (t .all) (omega arith) (omega (arith, t .whole)) }
+    record { there = h; text = all-inside ws ts (nodes (t .top)) 0 i (t .all) (omega arith) (omega (arith, t .whole)) }
 
 -- ------------------------------------------------------------------ two trees
 

@@ -10,7 +10,7 @@ use lib.ListN.{length}
 use Rattle.basics.specs.Basics.{among}
 use Rattle.characters.specs.Spans.{Span}
 use Rattle.characters.specs.Utf8.{encodeAll}
-use Rattle.tree.specs.Syntax.{PropPart, value, name, Prop, ConflictMarkerKind, ambiguity, precedence, ConflictMarker, SpecializeKind, extend, specialize, RepeatKind, optional, zeroOrMore, oneOrMore, CharClass, asciiLetter, asciiLowercase, asciiUppercase, digit, whitespace, eof, Expression, special, inline, choice, sequence, empty, repeat, set, any, class, Expressions, []ᴱ, _∷ᴱ_, Slots, last, slot, groups}
+use Rattle.tree.specs.Syntax.{PropPart, value, name, Prop, ConflictMarkerKind, ambiguity, precedence, ConflictMarker, SpecializeKind, extend, specialize, RepeatKind, optional, zeroOrMore, oneOrMore, CharClass, asciiLetter, asciiLowercase, asciiUppercase, digit, whitespace, eof, Expression, special, inline, choice, sequence, empty, repeat, set, any, class, Expressions, []ᴱ, _∷ᴱ_, Slots, last, slot}
 use Rattle.tree.specs.CharClasses.{classValue}
 use Rattle.tree.specs.Records.{Row, Branch, Branches, []ᴮ, _∷ᴮ_, records, texts, words}
 use Rattle.tree.specs.Stored.{full, named, valued, plain, leaf, each, flag, partBranch, propBranch, markerNumber, markerBranch, spanBranch, specializeValue, repeatValue, expressionBranch, expressionBranches, slotBranches}

@@ -10,7 +10,7 @@ use lib.ListN.{length}
 use Rattle.basics.specs.Basics.{among, kept}
 use Rattle.basics.proofs.Tests.{cases}
 use Rattle.characters.specs.Utf8.{encodeAll}
-use Rattle.tree.specs.Syntax.{Identifier, name, Prop, last, RuleDeclaration, TokenReference, referred, TokenPrecDeclaration, TokenConflictDeclaration, LiteralDeclaration, NamedNode, PrecKind, left, right, cut, PrecItem, ExternalPropDeclaration, Declaration, topRule, rule, tokens, localTokens, context, externalTokens, externalSpecializer, externalPropSource, precedences, mainSkip, scopedSkip, GrammarDeclaration, declarationKind, ofKind, groups, Grouped, startOf}
+use Rattle.tree.specs.Syntax.{Identifier, name, Prop, RuleDeclaration, TokenReference, referred, TokenPrecDeclaration, TokenConflictDeclaration, LiteralDeclaration, NamedNode, PrecKind, left, right, cut, PrecItem, ExternalPropDeclaration, Declaration, topRule, rule, tokens, localTokens, context, externalTokens, externalSpecializer, externalPropSource, precedences, mainSkip, scopedSkip, GrammarDeclaration, declarationKind, ofKind, groups, Grouped, startOf}
 use Rattle.tree.specs.Records.{Branch, branch, Branches, []ᴮ, _∷ᴮ_, records, texts, words}
 use Rattle.tree.specs.Stored.{full, named, valued, plain, each, flag, propBranch, specializeValue, expressionBranch, nameBranch, sourceBranch, ruleBranch, referenceBranch, tokenPrecBranch, tokenConflictBranch, literalBranch, namedNodeBranch, fallbackBranches, precValue, precItemBranch, declarationBranch, externalPropBranch, grammarBranch}
 use Rattle.tree.specs.OneTree.{isKind, expressionKinds, hasText, valuesFit, Group, many, one, atMostOne, groupsOf, matches, kindOf, build}

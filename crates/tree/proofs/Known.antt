@@ -1,16 +1,15 @@
 -- A tree of records is known by its words, but for the starts, and its texts.
 -- Assumes nothing.
 use Prim.Native.Nat.{ℕ, _+_}
-use native.Mathlib.Omega.{arith}
 use borrow.Author.Tests.{eqb-true, eq-eqb}
 use mathlib.Core.Path.{_≡_, refl, ap, sym, _∙_}
 use mathlib.Core.Bool.{true, _&&_}
-use mathlib.Core.List.{List, [], _∷_, _++_, map, append-assoc, append-nil}
+use mathlib.Core.List.{List, [], _∷_, _++_, map, map-append, append-assoc, append-nil}
 use lib.Dec.{eqb}
 use lib.ListN.{length, take, drop}
 use lib.Seq.{take-append-seam, drop-append-seam}
 use Rattle.basics.specs.Basics.{same}
-use Rattle.basics.proofs.Tests.{both-true}
+use Rattle.basics.proofs.Tests.{both-true, impossible}
 use Rattle.basics.proofs.Same.{same-true, same-refl}
 use Rattle.tree.specs.Records.{Row, Branch, branch, Branches, []ᴮ, _∷ᴮ_, count, Node, nodes, nodesAll, Record, recordOf, recordsFrom, textsOf, records, texts}
 use Rattle.tree.specs.Equality.{agreeing, allAgreeing}
@@ -41,19 +40,15 @@ unfolding count bareBranch
 count-bare []ᴮ = refl
 count-bare (b ∷ᴮ bs) = ap (λ n. 1 + n) (count-bare bs)
 
-map-join : (xs ys : List Node) → map bareNode (xs ++ ys) ≡ map bareNode xs ++ map bareNode ys
-map-join [] ys = refl
-map-join (x ∷ xs) ys = ap (λ l. bareNode x ∷ l) (map-join xs ys)
-
 mutual
   unfolding nodes bareBranch
 
   nodes-bare : (b : Branch) → nodes (bareBranch b) ≡ map bareNode (nodes b)
-  nodes-bare (branch r bs) = rw (nodesAll-bare bs, count-bare bs, map-join (nodesAll bs) (record { row = r; children = count bs } ∷ []))
+  nodes-bare (branch r bs) = rw (nodesAll-bare bs, count-bare bs, map-append bareNode (nodesAll bs) (record { row = r; children = count bs } ∷ []))
 
   nodesAll-bare : (bs : Branches) → nodesAll (bareBranches bs) ≡ map bareNode (nodesAll bs)
   nodesAll-bare []ᴮ = refl
-  nodesAll-bare (b ∷ᴮ bs) = rw (nodes-bare b, nodesAll-bare bs, map-join (nodes b) (nodesAll bs))
+  nodesAll-bare (b ∷ᴮ bs) = rw (nodes-bare b, nodesAll-bare bs, map-append bareNode (nodes b) (nodesAll bs))
 
 records-from-bare : (at : ℕ) (xs : List Node) → recordsFrom at (map bareNode xs) ≡ map noStart (recordsFrom at xs)
 unfolding recordsFrom
@@ -94,8 +89,8 @@ agreeing-same r q h =
 pub agreeing-all : (rs qs : List Record) → allAgreeing rs qs ≡ true → map noStart rs ≡ map noStart qs
 unfolding allAgreeing
 agreeing-all [] [] h = refl
-agreeing-all [] (q ∷ qs) h = let z : _≡_ {A = ℕ} 0 1 = cc in absurd (omega arith)
-agreeing-all (r ∷ rs) [] h = let z : _≡_ {A = ℕ} 0 1 = cc in absurd (omega arith)
+agreeing-all [] (q ∷ qs) h = impossible (cc)
+agreeing-all (r ∷ rs) [] h = impossible (cc)
 agreeing-all (r ∷ rs) (q ∷ qs) h = let a = both-true (agreeing r q) (allAgreeing rs qs) h in rw (agreeing-same r q (a .0), agreeing-all rs qs (a .1))
 
 -- a record agrees with another that is the same but for the start
@@ -116,8 +111,8 @@ heads e = (cc, cc)
 pub all-agreeing : (rs qs : List Record) → map noStart rs ≡ map noStart qs → allAgreeing rs qs ≡ true
 unfolding allAgreeing
 all-agreeing [] [] h = refl
-all-agreeing [] (q ∷ qs) h = let z : _≡_ {A = ℕ} 0 1 = cc in absurd (omega arith)
-all-agreeing (r ∷ rs) [] h = let z : _≡_ {A = ℕ} 0 1 = cc in absurd (omega arith)
+all-agreeing [] (q ∷ qs) h = impossible (cc)
+all-agreeing (r ∷ rs) [] h = impossible (cc)
 all-agreeing (r ∷ rs) (q ∷ qs) h = let t = heads h in rw (same-agreeing r q (t .0), all-agreeing rs qs (t .1))
 
 -- ------------------------------------------------------------------ the tree of records and texts

@@ -6,11 +6,12 @@ use native.Mathlib.Numerals.{add-one}
 use mathlib.Core.Path.{_≡_, refl, ap, sym, _∙_}
 use mathlib.Core.Bool.{Bool, true, false}
 use mathlib.Core.List.{List, [], _∷_}
-use lib.Dec.{eqb, ltb}
+use lib.Dec.{eqb}
 use lib.ListN.{length, drop, getD}
 use lib.Seq.{drop-cons}
 use borrow.Author.Tests.{ne-eqb, lt-ltb, le-ltb}
 use Rattle.basics.specs.Basics.{among}
+use Rattle.basics.proofs.Tests.{impossible}
 use Rattle.tree.specs.OneTree.{Group, many, one, atMostOne, without, begins, matches}
 use Rattle.tree.specs.Promise.{firstOf, kindBefore, kindsBack, kindsOf, groupOf, groupsIn}
 
@@ -38,7 +39,7 @@ some-begin ks ws j (suc n) e = refl
 
 pub begun : (ks ws : List ℕ) (j n : ℕ) → begins ks (kindsBack ws j n) ≡ true → 0 < n
 unfolding kindsBack
-begun ks ws j zero e = absurd (let z : _≡_ {A = ℕ} 0 1 = cc in omega arith)
+begun ks ws j zero e = impossible (cc)
 begun ks ws j (suc n) e = omega arith
 
 pub all-matched : (ws : List ℕ) (j n : ℕ) → matches [] (kindsBack ws j n) ≡ eqb n 0
@@ -61,7 +62,7 @@ rest ws i j (suc (suc n)) h e =
 module _ (ks : List ℕ) (gs : List Group) where
   pub many-yes : (cs : List ℕ) → begins ks cs ≡ true → matches (many ks ∷ gs) cs ≡ matches (many ks ∷ gs) (drop 1 cs)
   unfolding matches without
-  many-yes [] e = absurd (let z : _≡_ {A = ℕ} 0 1 = cc in omega arith)
+  many-yes [] e = impossible (cc)
   many-yes (c ∷ cs) e = rw (e, without)
 
   pub many-no : (cs : List ℕ) → begins ks cs ≡ false → matches (many ks ∷ gs) cs ≡ matches gs cs

@@ -8,6 +8,8 @@ use native.Mathlib.Decide.{decLt}
 use lib.ListN.{length, getD, length-append}
 use lib.Seq.{getD-append-add}
 use Rattle.tree.specs.Records.{Branch, Node, nodes, width, wordsOf, placeOf, recordOf, recordsFrom, words, textsOf, records, texts}
+use Rattle.tree.specs.Syntax.{GrammarDeclaration}
+use Rattle.tree.specs.Stored.{grammarBranch, grammarRecords, grammarTexts, grammarWords}
 use Rattle.tree.specs.Promise.{countOf, wordAt, At, All}
 use Rattle.tree.proofs.Encoded.{Lies, lies-length, lies-after, lies-part, cut-text}
 
@@ -56,6 +58,15 @@ module _ (b : Branch) (more : List ℕ) where
   pub stand-all : countOf (words (records b)) ≡ length (nodes b)
   unfolding records
   stand-all = omega (arith, length-words 0 (nodes b))
+
+-- the words and texts of a grammar are those of its tree
+pub words-of : (g : GrammarDeclaration ℕ) → grammarWords g ≡ words (records (grammarBranch g))
+unfolding grammarWords grammarRecords
+words-of g = refl
+
+pub texts-of : (g : GrammarDeclaration ℕ) → grammarTexts g ≡ texts (grammarBranch g)
+unfolding grammarTexts
+texts-of g = refl
 
 -- all texts lie in the texts
 pub all-inside : (ws ts : List ℕ) (xs : List Node) (lo i : ℕ) → All ws ts lo xs → lo ≤ i → i < lo + length xs → wordAt ws i 2 + wordAt ws i 3 ≤ length ts

@@ -4,16 +4,15 @@ use Prim.Native.Nat.{ℕ, zero, suc, _+_, _-_, _*_, _/_, _≤_, _<_}
 use native.Mathlib.Omega.{arith}
 use mathlib.Core.Path.{_≡_, refl, ap, sym, _∙_}
 use mathlib.Core.Bool.{Bool, true, false, _&&_}
-use mathlib.Core.List.{List, [], _∷_, _++_, map, append-nil}
+use mathlib.Core.List.{List, [], _∷_, _++_, map}
 use mathlib.Core.Option.{Option, none, some}
 use lib.Dec.{eqb, leb}
-use lib.ListN.{length, take, drop, getD, length-append}
+use lib.ListN.{length, take, length-append}
 use borrow.Author.Tests.{eqb-true, leb-true, leb-false, le-leb, lt-leb}
-use Rattle.basics.specs.Basics.{if_then_else_}
-use Rattle.basics.proofs.Tests.{cases, both-true}
-use Rattle.tree.specs.Records.{Row, Branch, branch, Branches, []ᴮ, _∷ᴮ_, Node, nodes, nodesAll, Record, width}
+use Rattle.basics.proofs.Tests.{cases, both-true, impossible}
+use Rattle.tree.specs.Records.{Row, Branch, nodes, Record, width}
 use Rattle.tree.specs.OneTree.{kindOf, rowOf, hasText, isKind, valuesFit, childrenFit, textFits, recordFits, only, buildFrom, recordsIn, buildBy, rooted, build}
-use Rattle.tree.specs.Promise.{wordAt, recordAt, nodeAt, kindBefore, kindsBack, isSome, At, All}
+use Rattle.tree.specs.Promise.{wordAt, recordAt, nodeAt, kindBefore, kindsBack, isSome, All}
 use Rattle.tree.proofs.Back.{all-append, all-one, flat, over, flat-over, length-over, kinds-back, kind-top, kind-some, nodes-some}
 
 -- ------------------------------------------------------------------ records in words
@@ -193,7 +192,7 @@ module _ (ws ts : List ℕ) where
 -- ------------------------------------------------------------------ the nodes of the tree stand in the words
 
 pub none-some : {b : Branch} {A : Type 0} → none ≡ some b → A
-none-some e = absurd (let z : _≡_ {A = ℕ} 0 1 = cc in omega arith)
+none-some e = impossible (cc)
 
 module _ (ws ts : List ℕ) (b : Branch) where
   pub whole-of : (l : List Branch) → only l ≡ some b → l ≡ b ∷ []

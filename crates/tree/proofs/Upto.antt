@@ -1,14 +1,13 @@
 -- Children that match their groups, put together from the first to the last.
 -- Assumes nothing.
 use Prim.Native.Nat.{ℕ}
-use native.Mathlib.Omega.{arith}
-use mathlib.Core.Path.{_≡_, refl, ap, sym, _∙_}
-use mathlib.Core.Bool.{Bool, true, false, not, _&&_, _||_, or-true}
+use mathlib.Core.Path.{_≡_, refl, sym, _∙_}
+use mathlib.Core.Bool.{Bool, true, false, not, _&&_, or-true}
 use mathlib.Core.List.{List, [], _∷_, _++_, map}
 use lib.Dec.{eqb}
-use borrow.Author.Tests.{eqb-true, not-true}
+use borrow.Author.Tests.{eqb-true}
 use Rattle.basics.specs.Basics.{among}
-use Rattle.basics.proofs.Tests.{cases, both-true}
+use Rattle.basics.proofs.Tests.{cases, both-true, impossible}
 use Rattle.tree.specs.Records.{Branch, Branches, []ᴮ, _∷ᴮ_}
 use Rattle.tree.specs.OneTree.{Group, many, one, atMostOne, begins, matches, kindOf}
 use Rattle.tree.specs.Stored.{each}
@@ -38,7 +37,7 @@ apart ks [] = true
 apart ks (h ∷ hs) = not (among ks h) && apart ks hs
 
 apart-one : (ks hs : List ℕ) (k : ℕ) → among hs k ≡ true → apart ks hs ≡ true → among ks k ≡ false
-apart-one ks [] k h d = absurd (let z : _≡_ {A = ℕ} 0 1 = cc in omega arith)
+apart-one ks [] k h d = impossible (cc)
 apart-one ks (g ∷ hs) k h d =
     let e = both-true (not (among ks g)) (apart ks hs) d in
     cases (eqb k g) (λ t. rw (eqb-true k g t) (not-false-of (among ks g) (e .0))) (λ t. apart-one ks hs k (rw t at h) (e .1))
@@ -56,7 +55,7 @@ among-right [] hs k h = h
 among-right (x ∷ ks) hs k h = rw (among-right ks hs k h) (or-true (eqb k x))
 
 among-left : (ks hs : List ℕ) (k : ℕ) → among ks k ≡ true → among (ks ++ hs) k ≡ true
-among-left [] hs k h = absurd (let z : _≡_ {A = ℕ} 0 1 = cc in omega arith)
+among-left [] hs k h = impossible (cc)
 among-left (x ∷ ks) hs k h = cases (eqb k x) (λ t. rw t) (λ t. rw t (among-left ks hs k (rw t at h)))
 
 head-more : (ks hs cs : List ℕ) → headIn hs cs ≡ true → headIn (ks ++ hs) cs ≡ true

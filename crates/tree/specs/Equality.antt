@@ -6,8 +6,8 @@ use mathlib.Core.List.{List, [], _∷_}
 use lib.Dec.{eqb}
 use Rattle.basics.specs.Basics.{same}
 use Rattle.tree.specs.Records.{Row, Branch, branch, Branches, []ᴮ, _∷ᴮ_, Record}
-use Rattle.tree.specs.Syntax.{Expression, GrammarDeclaration}
-use Rattle.tree.specs.Stored.{each, expressionBranch, grammarRecords, grammarTexts}
+use Rattle.tree.specs.Syntax.{GrammarDeclaration}
+use Rattle.tree.specs.Stored.{grammarRecords, grammarTexts}
 
 -- ------------------------------------------------------------------ structurally_eq
 
@@ -17,15 +17,18 @@ sameRow r q =
     eqb (r .kind) (q .kind) && same (r .text) (q .text) && (eqb (r .kind) 5 || eqb (r .value) (q .value)) && eqb (r .second) (q .second)
 
 unfoldable mutual
+  -- the rows are equal so, and all below them
   pub sameBranch : Branch → Branch → Bool
   sameBranch (branch r bs) (branch q cs) = sameRow r q && sameBranches bs cs
 
+  -- equally many branches, equal one by one
   pub sameBranches : Branches → Branches → Bool
   sameBranches []ᴮ []ᴮ = true
   sameBranches []ᴮ (c ∷ᴮ cs) = false
   sameBranches (b ∷ᴮ bs) []ᴮ = false
   sameBranches (b ∷ᴮ bs) (c ∷ᴮ cs) = sameBranch b c && sameBranches bs cs
 
+-- `structurally_eq`
 unfoldable pub structurallyEq : Branch → Branch → Bool
 unfolding same sameBranch
 structurallyEq b c = sameBranch b c

@@ -19,19 +19,23 @@ pub data Claim : Type 0 where
   equal : (texts left right : List ℕ) → Claim
   different : (texts left right : List ℕ) → Claim
 
+-- two trees are equal
 abbrev isEqual : Comparison → Bool
 isEqual Equal = true
 isEqual Different = false
 isEqual NotATree = false
 
+-- two trees are not equal
 abbrev isDifferent : Comparison → Bool
 isDifferent Equal = false
 isDifferent Different = true
 isDifferent NotATree = false
 
+-- two expressions over the same texts
 abbrev compared : (texts left right : List ℕ) → Comparison
 compared ts l r = comparison (build isExpression l ts) (build isExpression r ts)
 
+-- the definitions bear the claim out
 unfoldable pub holds : Claim → Bool
 unfolding build structurallyEq
 holds (tree ws ts) = isSome (build isExpression ws ts)
@@ -61,6 +65,7 @@ names p q = row 30 p 1 0 0 0 ++ row 30 q 1 0 0 1
 abbrev inline : (at : ℕ) → List ℕ
 inline v = row 5 0 1 v 0 0 ++ row 39 0 0 0 0 0 ++ row 32 1 1 0 0 2
 
+-- the claims
 abbrev pub table : List Claim
 table =
     -- spans: the first code below the one past the last, which is at most 1,114,112
@@ -78,6 +83,7 @@ table =
     ∷ different [] (row 37 0 0 0 0 0) (row 37 0 0 1 0 0)
     ∷ []
 
+-- all of them hold
 pub none-wrong : wrong 0 table ≡ []
 unfolding wrong
 none-wrong = refl

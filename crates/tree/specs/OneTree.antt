@@ -1,8 +1,8 @@
 -- When words and texts are one tree of records: `build` gives that tree, or `none`.
 -- Assumes nothing.
-use Prim.Native.Nat.{ℕ, zero, suc, _+_}
+use Prim.Native.Nat.{ℕ, _+_}
 use mathlib.Core.Bool.{Bool, true, false, _&&_, _||_}
-use mathlib.Core.List.{List, [], _∷_, _++_, map, reverse}
+use mathlib.Core.List.{List, [], _∷_, map, reverse}
 use mathlib.Core.Option.{Option, none, some}
 use lib.Dec.{eqb, leb, ltb}
 use lib.ListN.{length, take, drop}
@@ -12,12 +12,15 @@ use Rattle.tree.specs.Records.{Row, Branch, branch, Branches, []ᴮ, _�
 
 -- ------------------------------------------------------------------ the kinds
 
+-- the numbers that are kinds
 abbrev pub isKind : ℕ → Bool
 isKind k = within 1 26 k || within 30 42 k
 
+-- the kinds of expressions
 abbrev pub expressionKinds : List ℕ
 expressionKinds = 30 ∷ 31 ∷ 32 ∷ 33 ∷ 34 ∷ 35 ∷ 36 ∷ 37 ∷ 39 ∷ 40 ∷ []
 
+-- a kind is an expression's
 abbrev pub isExpression : ℕ → Bool
 isExpression k = among expressionKinds k
 
@@ -109,6 +112,7 @@ unfoldable pub recordFits : (room at : ℕ) → Record → List ℕ → Bool
 recordFits room at r cs =
     isKind (r .kind) && valuesFit (r .kind) (r .value) (r .second) && childrenFit (r .kind) (r .value) cs && textFits room at r
 
+-- the kind of a branch's record
 abbrev pub kindOf : Branch → ℕ
 kindOf (branch r bs) = r .kind
 
@@ -117,10 +121,12 @@ unfoldable pub inOrder : List Branch → Branches → Branches
 inOrder [] bs = bs
 inOrder (b ∷ l) bs = inOrder l (b ∷ᴮ bs)
 
+-- the row of a record, whose text stands in the texts
 abbrev pub rowOf : (texts : List ℕ) → Record → Row
 rowOf texts r =
     record { kind = r .kind; start = r .start; text = cut texts (r .place) (r .place + r .size); value = r .value; second = r .second }
 
+-- the branch of a list of one
 abbrev pub only : List Branch → Option Branch
 only [] = none
 only (b ∷ []) = some b
@@ -135,11 +141,12 @@ buildFrom texts at (r ∷ rs) stack =
       | false ↦ none
     ]
 
--- the records of words, seven words each
+-- a record in front of others, if there are any
 abbrev pub onto : Record → Option (List Record) → Option (List Record)
 onto r none = none
 onto r (some rs) = some (r ∷ rs)
 
+-- the records of words, if there are seven words for each
 unfoldable pub recordsIn : List ℕ → Option (List Record)
 recordsIn [] = some []
 recordsIn (k ∷ []) = none
@@ -151,15 +158,17 @@ recordsIn (k ∷ s ∷ p ∷ n ∷ v ∷ w ∷ []) = none
 recordsIn (k ∷ s ∷ p ∷ n ∷ v ∷ w ∷ c ∷ ws) =
     onto (record { kind = k; start = s; place = p; size = n; value = v; second = w; children = c }) (recordsIn ws)
 
+-- the tree of the records, if the words are records
 abbrev pub buildBy : List ℕ → Option (List Record) → Option Branch
 buildBy texts none = none
 buildBy texts (some rs) = buildFrom texts 0 rs []
 
--- the tree that words and texts are, its root of a kind that passes the test
+-- the tree, if its root is of a kind that passes the test
 abbrev pub rooted : (ℕ → Bool) → Option Branch → Option Branch
 rooted root none = none
 rooted root (some b) = if root (kindOf b) then some b else none
 
+-- the tree that words and texts are, if they are one, its root of a kind that passes the test
 unfoldable pub build : (root : ℕ → Bool) → (words texts : List ℕ) → Option Branch
 unfolding valuesFit groupsOf without matches textFits recordFits inOrder buildFrom recordsIn
 build root words texts = rooted root (buildBy texts (recordsIn words))

@@ -3,9 +3,9 @@
 use Prim.Native.Nat.{ℕ, zero, suc, _+_, _-_, _*_, _/_, _≤_, _<_}
 use mathlib.Core.Path.{_≡_}
 use mathlib.Core.Bool.{Bool, true, false, _&&_}
-use mathlib.Core.List.{List, [], _∷_, _++_}
+use mathlib.Core.List.{List, [], _∷_}
 use mathlib.Core.Option.{Option, none, some}
-use lib.Dec.{eqb, leb, ltb}
+use lib.Dec.{eqb, ltb}
 use lib.ListN.{length, getD}
 use Rattle.basics.specs.Basics.{if_then_else_}
 use Rattle.tree.specs.Syntax.{CharClass, asciiLetter, asciiLowercase, asciiUppercase, digit, whitespace, eof, RepeatKind, optional, zeroOrMore, oneOrMore, SpecializeKind, extend, specialize, ConflictMarkerKind, ambiguity, precedence, PrecKind, left, right, cut}
@@ -30,6 +30,7 @@ use Rattle.tree.specs.declared.Comparison.the-variants as Comparison
 
 -- ------------------------------------------------------------------ kinds
 
+-- a class of the code
 abbrev pub classOf : DeclaredClass → CharClass
 classOf CharClasss.AsciiLetter = asciiLetter
 classOf CharClasss.AsciiLowercase = asciiLowercase
@@ -38,19 +39,23 @@ classOf CharClasss.Digit = digit
 classOf CharClasss.Whitespace = whitespace
 classOf CharClasss.Eof = eof
 
+-- a repeat of the code
 abbrev pub repeatOf : DeclaredRepeat → RepeatKind
 repeatOf RepeatKinds.Optional = optional
 repeatOf RepeatKinds.ZeroOrMore = zeroOrMore
 repeatOf RepeatKinds.OneOrMore = oneOrMore
 
+-- a specialize of the code
 abbrev pub specializeOf : DeclaredSpecialize → SpecializeKind
 specializeOf SpecializeKinds.Extend = extend
 specializeOf SpecializeKinds.Specialize = specialize
 
+-- a marker of the code
 abbrev pub markerOf : DeclaredMarker → ConflictMarkerKind
 markerOf ConflictMarkerKinds.Ambiguity = ambiguity
 markerOf ConflictMarkerKinds.Precedence = precedence
 
+-- how an item of the code associates, if it does
 abbrev pub precOf : DeclaredPrec → Option PrecKind
 precOf PrecKinds.Missing = none
 precOf PrecKinds.Left = some left
@@ -80,6 +85,7 @@ countOf ws = length ws / width
 abbrev pub wordAt : List ℕ → (i word : ℕ) → ℕ
 wordAt ws i k = getD ws (i * width + k) 0
 
+-- the record i of the words
 abbrev pub recordAt : List ℕ → ℕ → Record
 recordAt ws i =
     record {
@@ -157,19 +163,23 @@ abbrev pub rootOf : Root → ℕ → Bool
 rootOf Root.Expression = isExpression
 rootOf Root.Grammar = λ k. eqb k 1
 
+-- there is a tree
 abbrev pub isSome : Option Branch → Bool
 isSome none = false
 isSome (some b) = true
 
 -- ------------------------------------------------------------------ two trees
 
+-- two nodes are equal as `structurally_eq` compares them, and have equally many children
 unfoldable pub sameNode : Node → Node → Bool
 sameNode x y = sameRow (x .row) (y .row) && eqb (x .children) (y .children)
 
+-- the answer for two trees, by whether they are equal
 abbrev pub comparisonOf : Bool → Comparison
 comparisonOf true = Comparison.Equal
 comparisonOf false = Comparison.Different
 
+-- the answer for two trees, if both are trees
 abbrev pub comparison : Option Branch → Option Branch → Comparison
 comparison (some b) (some c) = comparisonOf (structurallyEq b c)
 comparison (some b) none = Comparison.NotATree

@@ -13,16 +13,17 @@ pub record Row : Type 0 where
   pub value : ℕ
   pub second : ℕ
 
--- a record with those below it
 mutual
+  -- a record with those below it
   pub data Branch : Type 0 where
     branch : Row → Branches → Branch
 
+  -- the branches below a record, in their order
   pub data Branches : Type 0 where
     []ᴮ : Branches
     _∷ᴮ_ : Branch → Branches → Branches
 
--- how many
+-- how many branches there are
 unfoldable pub count : Branches → ℕ
 count []ᴮ = 0
 count (b ∷ᴮ bs) = 1 + count bs
@@ -34,9 +35,11 @@ pub record Node : Type 0 where
 
 -- children before their parent
 unfoldable mutual
+  -- the nodes of a branch
   pub nodes : Branch → List Node
   nodes (branch r bs) = nodesAll bs ++ (record { row = r; children = count bs } ∷ [])
 
+  -- the nodes of branches, one after another
   pub nodesAll : Branches → List Node
   nodesAll []ᴮ = []
   nodesAll (b ∷ᴮ bs) = nodes b ++ nodesAll bs
@@ -55,6 +58,7 @@ pub record Record : Type 0 where
 abbrev pub width : ℕ
 width = 7
 
+-- the seven words of a record
 abbrev pub wordsOf : Record → List ℕ
 wordsOf r = r .kind ∷ r .start ∷ r .place ∷ r .size ∷ r .value ∷ r .second ∷ r .children ∷ []
 
@@ -63,6 +67,7 @@ abbrev pub placeOf : (at size : ℕ) → ℕ
 placeOf at zero = 0
 placeOf at (suc n) = at
 
+-- the record of a node whose text begins at a place
 abbrev pub recordOf : (at : ℕ) → Node → Record
 recordOf at x =
     record {
@@ -80,19 +85,22 @@ unfoldable pub recordsFrom : (at : ℕ) → List Node → List Record
 recordsFrom at [] = []
 recordsFrom at (x ∷ xs) = recordOf at x ∷ recordsFrom (at + length (x .row .text)) xs
 
+-- the words of records, one after another
 unfoldable pub words : List Record → List ℕ
 words [] = []
 words (r ∷ rs) = wordsOf r ++ words rs
 
+-- the texts of nodes, one after another
 unfoldable pub textsOf : List Node → List ℕ
 textsOf [] = []
 textsOf (x ∷ xs) = x .row .text ++ textsOf xs
 
--- the records and the texts of a tree
+-- the records of a tree
 unfoldable pub records : Branch → List Record
 unfolding count nodes recordsFrom
 records b = recordsFrom 0 (nodes b)
 
+-- the texts of a tree
 unfoldable pub texts : Branch → List ℕ
 unfolding count nodes textsOf
 texts b = textsOf (nodes b)

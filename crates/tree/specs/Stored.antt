@@ -2,27 +2,31 @@
 -- Assumes nothing.
 use Prim.Native.Nat.{ℕ}
 use mathlib.Core.Bool.{Bool, true, false}
-use mathlib.Core.List.{List, [], _∷_, _++_}
+use mathlib.Core.List.{List, [], _∷_}
 use mathlib.Core.Option.{Option, none, some}
 use Rattle.characters.specs.Spans.{Span}
 use Rattle.characters.specs.Utf8.{encodeAll}
 use Rattle.tree.specs.CharClasses.{classValue}
 use Rattle.tree.specs.Records.{Row, Branch, branch, Branches, []ᴮ, _∷ᴮ_, Record, records, texts, words}
-use Rattle.tree.specs.Syntax.{Identifier, PropPart, value, name, Prop, ConflictMarkerKind, ambiguity, precedence, ConflictMarker, SpecializeKind, extend, specialize, RepeatKind, optional, zeroOrMore, oneOrMore, Expression, special, inline, choice, sequence, empty, repeat, set, any, class, Expressions, []ᴱ, _∷ᴱ_, Slots, last, slot, RuleDeclaration, TokenReference, referred, TokenPrecDeclaration, TokenConflictDeclaration, LiteralDeclaration, NamedNode, TokenDeclaration, LocalTokenDeclaration, ContextDeclaration, ExternalTokenDeclaration, ExternalSpecializeDeclaration, ExternalPropSourceDeclaration, ExternalPropDeclaration, PrecKind, left, right, cut, PrecItem, PrecDeclaration, ScopedSkipDeclaration, Declaration, topRule, rule, tokens, localTokens, context, externalTokens, externalSpecializer, externalPropSource, precedences, mainSkip, scopedSkip, GrammarDeclaration, startOf}
+use Rattle.tree.specs.Syntax.{Identifier, PropPart, value, name, Prop, ConflictMarkerKind, ambiguity, precedence, ConflictMarker, SpecializeKind, extend, specialize, RepeatKind, optional, zeroOrMore, oneOrMore, Expression, special, inline, choice, sequence, empty, repeat, set, any, class, Expressions, []ᴱ, _∷ᴱ_, Slots, last, slot, RuleDeclaration, TokenReference, referred, TokenPrecDeclaration, TokenConflictDeclaration, LiteralDeclaration, NamedNode, ExternalPropDeclaration, PrecKind, left, right, cut, PrecItem, Declaration, topRule, rule, tokens, localTokens, context, externalTokens, externalSpecializer, externalPropSource, precedences, mainSkip, scopedSkip, GrammarDeclaration, startOf}
 
--- a row with a text and a value; with a text; with a value; with neither
+-- a row with a text and a value. Its second value is 0
 abbrev pub full : (kind start : ℕ) → (text : List ℕ) → (value : ℕ) → Row
 full k p t v = record { kind = k; start = p; text = encodeAll t; value = v; second = 0 }
 
+-- a row with a text
 abbrev pub named : (kind start : ℕ) → (text : List ℕ) → Row
 named k p t = full k p t 0
 
+-- a row with a value
 abbrev pub valued : (kind start value : ℕ) → Row
 valued k p v = full k p [] v
 
+-- a row with neither
 abbrev pub plain : (kind start : ℕ) → Row
 plain k p = full k p [] 0
 
+-- a record without children
 abbrev pub leaf : Row → Branch
 leaf r = branch r []ᴮ
 
@@ -31,6 +35,7 @@ unfoldable pub each : {A : Type 0} → (A → Branch) → List A → Branches �
 each f [] bs = bs
 each f (x ∷ xs) bs = f x ∷ᴮ each f xs bs
 
+-- 1 for yes
 abbrev pub flag : Bool → ℕ
 flag false = 0
 flag true = 1
@@ -51,6 +56,7 @@ abbrev pub markerNumber : ConflictMarkerKind → ℕ
 markerNumber ambiguity = 41
 markerNumber precedence = 42
 
+-- a marker, by its number
 abbrev pub markerBranch : ConflictMarker ℕ → Branch
 markerBranch m = leaf (named (markerNumber (m .kind)) (m .start) (m .name))
 
@@ -58,10 +64,12 @@ markerBranch m = leaf (named (markerNumber (m .kind)) (m .start) (m .name))
 abbrev pub spanBranch : ℕ → Span → Branch
 spanBranch p s = leaf (record { kind = 38; start = p; text = []; value = s .first; second = s .past })
 
+-- the value of a specialize
 abbrev pub specializeValue : SpecializeKind → ℕ
 specializeValue extend = 1
 specializeValue specialize = 2
 
+-- the value of a repeat
 abbrev pub repeatValue : RepeatKind → ℕ
 repeatValue optional = 0
 repeatValue zeroOrMore = 1
@@ -85,10 +93,12 @@ unfoldable mutual
   expressionBranch (any p) = leaf (plain 39 p)
   expressionBranch (class p c) = leaf (valued 40 p (classValue c))
 
+  -- expressions, one after another
   pub expressionBranches : Expressions ℕ → Branches
   expressionBranches []ᴱ = []ᴮ
   expressionBranches (e ∷ᴱ es) = expressionBranch e ∷ᴮ expressionBranches es
 
+  -- the slots of a sequence
   pub slotBranches : Slots ℕ → Branches
   slotBranches (last ms) = each markerBranch ms []ᴮ
   slotBranches (slot ms e s) = each markerBranch ms (expressionBranch e ∷ᴮ slotBranches s)
@@ -113,10 +123,11 @@ ruleBranch k r =
 abbrev pub referenceBranch : TokenReference ℕ → Branch
 referenceBranch r = expressionBranch (referred r)
 
--- 9 token precedence and 10 conflict: 30 or 36 (10 has two)
+-- 9 token precedence: 30s and 36s
 abbrev pub tokenPrecBranch : TokenPrecDeclaration ℕ → Branch
 tokenPrecBranch x = branch (plain 9 (x .start)) (each referenceBranch (x .items) []ᴮ)
 
+-- 10 token conflict: two, each 30 or 36
 abbrev pub tokenConflictBranch : TokenConflictDeclaration ℕ → Branch
 tokenConflictBranch x = branch (plain 10 (x .start)) (referenceBranch (x .left) ∷ᴮ referenceBranch (x .right) ∷ᴮ []ᴮ)
 
@@ -128,6 +139,7 @@ literalBranch x = branch (named 11 (x .start) (x .literal)) (each propBranch (x 
 abbrev pub namedNodeBranch : NamedNode ℕ → Branch
 namedNodeBranch x = branch (named 13 (x .id .start) (x .id .name)) (each propBranch (x .props) []ᴮ)
 
+-- the 13 of `@else`, if there is one
 abbrev pub fallbackBranches : Option (NamedNode ℕ) → Branches
 fallbackBranches none = []ᴮ
 fallbackBranches (some x) = namedNodeBranch x ∷ᴮ []ᴮ
@@ -139,6 +151,7 @@ precValue (some left) = 1
 precValue (some right) = 2
 precValue (some cut) = 3
 
+-- 21 item, by that value
 abbrev pub precItemBranch : PrecItem ℕ → Branch
 precItemBranch x = leaf (full 21 (x .id .start) (x .id .name) (precValue (x .kind)))
 
@@ -178,11 +191,12 @@ grammarBranch g =
     branch (valued 1 (g .start) (flag (g .autoDelimiters)))
     (each declarationBranch (g .declarations) (each (nameBranch 24) (g .dialects) (each externalPropBranch (g .externalProps) []ᴮ)))
 
--- the records and texts of a grammar
+-- the records of a grammar
 unfoldable pub grammarRecords : GrammarDeclaration ℕ → List Record
 unfolding grammarBranch records
 grammarRecords g = records (grammarBranch g)
 
+-- the texts of a grammar
 unfoldable pub grammarTexts : GrammarDeclaration ℕ → List ℕ
 unfolding grammarBranch texts
 grammarTexts g = texts (grammarBranch g)

@@ -2,15 +2,16 @@
 -- A text is a list of codes.
 -- Assumes nothing.
 use Prim.Native.Nat.{ℕ}
-use mathlib.Core.Bool.{Bool, true, false, _||_}
+use mathlib.Core.Bool.{Bool, false, _||_}
 use mathlib.Core.List.{List, [], _∷_, _++_}
-use mathlib.Core.Option.{Option, none, some}
+use mathlib.Core.Option.{Option}
 use mathlib.Core.Path.{_≡_}
 use lib.Dec.{eqb}
 use Rattle.basics.specs.Basics.{kept}
 use Rattle.characters.specs.Spans.{Span}
 
 infixr 67 _∷ᴱ_
+-- a name and where it starts
 pub record Identifier (S : Type 0) : Type 0 where
   pub start : S
   pub name : List ℕ
@@ -31,11 +32,13 @@ pub record Prop (S : Type 0) : Type 0 where
 pub data ConflictMarkerKind : Type 0 where
   ambiguity precedence : ConflictMarkerKind
 
+-- a marker and its name
 pub record ConflictMarker (S : Type 0) : Type 0 where
   pub start : S
   pub kind : ConflictMarkerKind
   pub name : List ℕ
 
+-- `@extend` and `@specialize`
 pub data SpecializeKind : Type 0 where
   extend specialize : SpecializeKind
 
@@ -43,11 +46,12 @@ pub data SpecializeKind : Type 0 where
 pub data RepeatKind : Type 0 where
   optional zeroOrMore oneOrMore : RepeatKind
 
+-- the classes of characters that have a name
 pub data CharClass : Type 0 where
   asciiLetter asciiLowercase asciiUppercase digit whitespace eof : CharClass
 
--- An S that stands first in a constructor is the start
 mutual
+  -- an expression. An S that stands first in a constructor is the start
   pub data Expression (S : Type 0) : Type 0 where
     name : S → List ℕ → (arguments : Expressions S) → Expression S
     special : S → SpecializeKind → List (Prop S) → (token content : Expression S) → Expression S
@@ -63,6 +67,7 @@ mutual
     any : S → Expression S
     class : S → CharClass → Expression S
 
+  -- a list of expressions
   pub data Expressions (S : Type 0) : Type 0 where
     []ᴱ : Expressions S
     _∷ᴱ_ : Expression S → Expressions S → Expressions S
@@ -72,34 +77,41 @@ mutual
     last : List (ConflictMarker S) → Slots S
     slot : List (ConflictMarker S) → Expression S → Slots S → Slots S
 
+-- a rule. Its start is that of its name
 pub record RuleDeclaration (S : Type 0) : Type 0 where
   pub id : Identifier S
   pub props : List (Prop S)
   pub params : List (Identifier S)
   pub expression : Expression S
 
+-- what a token precedence or a token conflict names
 pub data TokenReference (S : Type 0) : Type 0 where
   name : S → List ℕ → Expressions S → TokenReference S
   literal : S → List ℕ → TokenReference S
 
+-- `@precedence` in a block of tokens
 pub record TokenPrecDeclaration (S : Type 0) : Type 0 where
   pub start : S
   pub items : List (TokenReference S)
 
+-- `@conflict` in a block of tokens
 pub record TokenConflictDeclaration (S : Type 0) : Type 0 where
   pub start : S
   pub left : TokenReference S
   pub right : TokenReference S
 
+-- a literal in `@tokens`
 pub record LiteralDeclaration (S : Type 0) : Type 0 where
   pub start : S
   pub literal : List ℕ
   pub props : List (Prop S)
 
+-- a name with props: a token of an external block, or a fallback
 pub record NamedNode (S : Type 0) : Type 0 where
   pub id : Identifier S
   pub props : List (Prop S)
 
+-- `@tokens`, its members kind by kind
 pub record TokenDeclaration (S : Type 0) : Type 0 where
   pub start : S
   pub precedences : List (TokenPrecDeclaration S)
@@ -107,17 +119,20 @@ pub record TokenDeclaration (S : Type 0) : Type 0 where
   pub rules : List (RuleDeclaration S)
   pub literals : List (LiteralDeclaration S)
 
+-- `@local tokens`, its members kind by kind
 pub record LocalTokenDeclaration (S : Type 0) : Type 0 where
   pub start : S
   pub precedences : List (TokenPrecDeclaration S)
   pub rules : List (RuleDeclaration S)
   pub fallback : Option (NamedNode S)
 
+-- `@context`
 pub record ContextDeclaration (S : Type 0) : Type 0 where
   pub start : S
   pub id : List ℕ
   pub source : List ℕ
 
+-- `@external tokens`
 pub record ExternalTokenDeclaration (S : Type 0) : Type 0 where
   pub start : S
   pub id : List ℕ
@@ -125,6 +140,7 @@ pub record ExternalTokenDeclaration (S : Type 0) : Type 0 where
   pub tokens : List (NamedNode S)
   pub conflicts : List (Identifier S)
 
+-- `@external extend` and `@external specialize`
 pub record ExternalSpecializeDeclaration (S : Type 0) : Type 0 where
   pub start : S
   pub kind : SpecializeKind
@@ -133,28 +149,34 @@ pub record ExternalSpecializeDeclaration (S : Type 0) : Type 0 where
   pub source : List ℕ
   pub tokens : List (NamedNode S)
 
+-- `@external propSource`
 pub record ExternalPropSourceDeclaration (S : Type 0) : Type 0 where
   pub start : S
   pub id : List ℕ
   pub source : List ℕ
 
+-- `@external prop`: `externalId` is the name at the source, `id` the one after `as`
 pub record ExternalPropDeclaration (S : Type 0) : Type 0 where
   pub start : S
   pub id : List ℕ
   pub externalId : Identifier S
   pub source : List ℕ
 
+-- `@left`, `@right` and `@cut`
 pub data PrecKind : Type 0 where
   left right cut : PrecKind
 
+-- an item of `@precedence`
 pub record PrecItem (S : Type 0) : Type 0 where
   pub id : Identifier S
   pub kind : Option PrecKind
 
+-- `@precedence` at top level
 pub record PrecDeclaration (S : Type 0) : Type 0 where
   pub start : S
   pub items : List (PrecItem S)
 
+-- `@skip` with a block of rules
 pub record ScopedSkipDeclaration (S : Type 0) : Type 0 where
   pub expression : Expression S
   pub topRules : List (RuleDeclaration S)

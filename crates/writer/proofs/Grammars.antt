@@ -2,28 +2,19 @@
 -- Assumes nothing.
 use Prim.Native.Nat.{ℕ, _+_, _-_, _<_, _^_}
 use native.Mathlib.Omega.{arith}
-use mathlib.Core.Path.{_≡_, refl, ap, sym, _∙_}
+use mathlib.Core.Path.{_≡_, ap, sym, _∙_}
 use mathlib.Core.List.{List, [], _∷_, _++_}
 use lib.ListN.{length}
-use Rattle.tree.specs.Syntax.{GrammarDeclaration}
-use Rattle.tree.specs.Records.{Row, Branch, branch, count, Node, nodes, nodesAll, records, texts, words}
-use Rattle.tree.specs.Stored.{grammarBranch, grammarRecords, grammarTexts, grammarWords}
+use Rattle.tree.specs.Records.{Row, Branch, branch, count, Node, nodes, nodesAll, texts, words}
+use Rattle.tree.specs.Stored.{grammarBranch}
 use Rattle.tree.specs.Promise.{countOf, wordAt, All}
 use Rattle.tree.proofs.Back.{all-left, root-at, past-root, nodes-some}
-use Rattle.tree.proofs.Standing.{stands, stand-all, all-inside}
+use Rattle.tree.proofs.Standing.{stands, stand-all, all-inside, words-of, texts-of}
 use Rattle.spelling.specs.NormalText.{normalText}
 use Rattle.writer.specs.Promise.{Lent, rowAt, Run, Stored}
-use Rattle.writer.specs.Walk.{lastAt, lastClass, branchesText, closing, treeText}
+use Rattle.writer.specs.Walk.{lastAt, lastClass, branchesText, closing}
 use Rattle.writer.proofs.Runs.{last-of, recount}
-use Rattle.writer.proofs.WalkedGrammar.{grammar-walked}
-
-words-of : (g : GrammarDeclaration ℕ) → grammarWords g ≡ words (records (grammarBranch g))
-unfolding grammarWords grammarRecords
-words-of g = refl
-
-texts-of : (g : GrammarDeclaration ℕ) → grammarTexts g ≡ texts (grammarBranch g)
-unfolding grammarTexts
-texts-of g = refl
+use Rattle.writer.proofs.WalkedGrammar.{grammar-walked, treeText}
 
 -- a tree whose last record is i: its children, and its text
 pub record Rooted (ws ts : List ℕ) (i : ℕ) (t : List ℕ) : Type 0 where

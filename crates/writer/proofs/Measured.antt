@@ -1,25 +1,22 @@
 -- A text measured over no bytes, and then written.
 -- Assumes nothing.
-use mathlib.Core.Path.{_≡_, refl, _∙_, ap}
+use mathlib.Core.Path.{_≡_, _∙_, ap}
 use mathlib.Core.Bool.{true, false, or-true}
-use mathlib.Core.List.{List, [], _∷_, _++_}
+use mathlib.Core.List.{List, _++_}
 use Prim.Native.Nat.{ℕ, _≤_, _<_}
 use native.Mathlib.Omega.{arith}
 use lib.Dec.{ltb}
 use lib.ListN.{length, take}
 use borrow.Author.Tests.{lt-ltb, le-ltb}
 use Rattle.output.specs.Promise.{Wrote}
+use Rattle.basics.proofs.Lists.{front-none}
 use Rattle.writer.specs.declared.Written.the-variants.{Bytes, TooLong}
 use Rattle.writer.specs.Promise.{tooLong, WroteWithin}
-
-front-empty : (ys xs : List ℕ) → length ys ≡ 0 → ys ++ xs ≡ xs
-front-empty [] xs e = refl
-front-empty (y ∷ ys) xs e = absurd (omega arith)
 
 module _ {t ys : List ℕ} {n : ℕ} (xs : List ℕ) (w : Wrote t (take 0 xs) ys n) where
   -- what was measured over is as it was
   untouched : ys ++ xs ≡ xs
-  untouched = front-empty ys xs (w .same)
+  untouched = front-none ys xs (w .same)
 
   pub over-limit : {limit : ℕ} → limit < n → WroteWithin limit t xs (ys ++ xs) TooLong
   over-limit {limit} h =

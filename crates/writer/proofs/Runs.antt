@@ -181,10 +181,6 @@ module _ {ws ts : List ℕ} {n end : ℕ} (s : Run ws ts n end) (b : ℕ) (h : b
   pub mid-low : 0 < b → mid < end
   mid-low k = omega (arith, ends-at, count-size rights, count-right)
 
-  pub mid-high : b < n → 0 < mid
-  unfolding mid
-  mid-high k = omega (arith, count-size lefts, count-left)
-
   pub halves : (p : Row) (l : ℕ) {m : ℕ} (e : m ≡ mid) → b < n → branchesText p l (s .branches) ≡ branchesText p l (left e .branches) ++ branchesText p (class (kindBefore ws m)) (right .branches)
   unfolding left right mid
   halves p l e k =

@@ -12,6 +12,7 @@ use Rattle.tree.specs.Syntax.{PropPart, value, name, Prop, ConflictMarkerKind, 
 use Rattle.tree.specs.Records.{Row, branch, Branches, []ᴮ, _∷ᴮ_}
 use Rattle.tree.specs.Stored.{full, named, valued, plain, leaf, flag, partBranch, propBranch, markerNumber, markerBranch, spanBranch, expressionBranch, expressionBranches, slotBranches}
 use Rattle.tree.specs.Stored as Stored
+use Rattle.tree.proofs.ExpressionsFit.{expression-kind}
 use Rattle.spelling.specs.Spelling.{spanText, spansText, spell}
 use Rattle.spelling.specs.NormalText.{each, mark, propTokens, propsTokens, partTokens, valueTokens, propName, markerTokens, isChoice, isSequence, bracketIf, expressionTokens, argumentsTokens, moreArguments, armsTokens, moreArms, slotsTokens}
 use Rattle.writer.specs.Walk.{textFor, comma, opens, shuts, between, separator, tail, setting, inBrackets, isLine, tokenless, lead, ends, before, spelled, after, close, blockEnd, lastClass}
@@ -70,18 +71,8 @@ props p h bs rest z xs ks d e = children-bracketed p (prop-child h) rest z "[" "
 -- ------------------------------------------------------------------ expressions among children
 
 pub expression-class : (e : Expression ℕ) → classOf (expressionBranch e) ≡ 30
-unfolding Walk.class expressionBranch
-expression-class (Expression.name p t es) = refl
-expression-class (special p k ps e f) = refl
-expression-class (inline p t ps e) = refl
-expression-class (choice p es) = refl
-expression-class (sequence p s) = refl
-expression-class (empty p) = refl
-expression-class (repeat p k e) = refl
-expression-class (Expression.literal p t) = refl
-expression-class (set p i ss) = refl
-expression-class (any p) = refl
-expression-class (class p c) = refl
+unfolding Walk.class
+expression-class e = rw (expression-kind e)
 
 pub expression-child : (p : Row) (l : ℕ) (e : Expression ℕ) (bs : Branches) (rest : List ℕ)
     → walks p l (expressionBranch e ∷ᴮ bs) rest ≡ between (p .kind) l 30 ++ body (setting (p .kind)) (expressionBranch e) (tail (p .kind) 30 ++ walks p 30 bs rest)

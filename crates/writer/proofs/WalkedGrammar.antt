@@ -9,16 +9,21 @@ use Rattle.basics.specs.Basics.{letters}
 use Rattle.characters.specs.Utf8.{encode, encodeAll}
 use Rattle.lexer.specs.Tokens.{Kind}
 use Rattle.tree.specs.Syntax.{Identifier, ExternalPropDeclaration, Declaration, topRule, rule, tokens, localTokens, context, externalTokens, externalSpecializer, externalPropSource, precedences, mainSkip, scopedSkip, GrammarDeclaration}
-use Rattle.tree.specs.Records.{Branch, Branches, []ᴮ, _∷ᴮ_}
+use Rattle.tree.specs.Records.{Branch, Branches, []ᴮ, _∷ᴮ_, branch}
 use Rattle.tree.specs.Stored.{valued, flag, nameBranch, declarationBranch, externalPropBranch, grammarBranch}
 use Rattle.tree.specs.Stored as Stored
 use Rattle.spelling.specs.Spelling.{spell, spaced}
-use Rattle.spelling.specs.NormalText.{eachAfter, mark, at, identifier, declarationTokens, externalPropTokens, dialectsLines, detectLines, lines, linesText, normalText}
-use Rattle.writer.specs.Walk.{textFor, newLine, between, separator, tail, setting, inBrackets, isLine, tokenless, lead, ends, before, spelled, after, close, blockEnd, lastClass, closing, treeText}
+use Rattle.spelling.specs.NormalText.{eachAfter, mark, at, identifier, declarationTokens, externalPropTokens, dialectsLines, detectLines, linesText, normalText}
+use Rattle.writer.specs.Walk.{textFor, newLine, between, separator, tail, setting, inBrackets, isLine, tokenless, lead, ends, before, spelled, after, close, blockEnd, lastClass, closing, branchesText}
 use Rattle.writer.specs.Walk as Walk
 use Rattle.spelling.proofs.Bytes.{encode-append}
+use Rattle.spelling.proofs.Lines.{lines-of}
 use Rattle.writer.proofs.Walked.{classOf, sourceOn, body, walks, walks-on, led, led-spaced}
 use Rattle.writer.proofs.WalkedDeclarations.{declaration, external-prop-says}
+
+-- the text of a whole tree
+unfoldable pub treeText : Branch → List ℕ
+treeText (branch r bs) = branchesText r 0 bs ++ closing (r .value) (lastClass 0 bs)
 
 -- the bytes of lines
 abbrev textOf : List (List Kind) → List ℕ
@@ -152,11 +157,6 @@ module _ (p : ℕ) (b : Bool) where
       ∙ sym (append-assoc (encodeAll (spaced ks)) (0x0A ∷ []) e) ∙ ap (λ (y : List ℕ). y ++ e) (sym (text-line ks [])))
 
 -- ------------------------------------------------------------------ the whole
-
-lines-of : (g : GrammarDeclaration ℕ)
-    → lines g ≡ map (λ d. declarationTokens d []) (g .declarations) ++ dialectsLines (g .dialects) ++ map (λ x. externalPropTokens x []) (g .externalProps) ++ detectLines (g .autoDelimiters)
-unfolding lines
-lines-of g = refl
 
 -- the walk over a grammar's records writes its normal text
 pub grammar-walked : (g : GrammarDeclaration ℕ) → treeText (grammarBranch g) ≡ normalText g

@@ -59,5 +59,6 @@ pub record WroteWithin (limit : ℕ) (text old new : List ℕ) (r : Written) : T
   pub answer : r ≡ (if tooLong limit text old then TooLong else Bytes (length text))
   pub output : new ≡ (if tooLong limit text old then old else text ++ drop (length text) old)
 
+-- the normal text within a limit, of whatever grammar it is
 abbrev pub WroteNormalWithin : (ws ts : List ℕ) → (limit : ℕ) → (old new : List ℕ) → Written → Type 0
 WroteNormalWithin ws ts limit old new r = (s : Stored ws ts) → WroteWithin limit (normalText (s .grammar)) old new r

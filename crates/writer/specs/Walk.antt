@@ -23,6 +23,7 @@ pub record Entry : Type 0 where
   pub number : ℕ
   pub text : List ℕ
 
+-- an entry with a quoted text
 abbrev pub _says_ : ℕ → String → Entry
 n says s = record { number = n; text = letters s }
 
@@ -37,33 +38,39 @@ textFor (e ∷ es) n = if eqb n (e .number) then e .text else textFor es n
 unfoldable pub class : ℕ → ℕ
 class k = if isExpression k then 30 else if eqb k 7 then 6 else k
 
--- between two of one class: by the parent for expressions, by the class otherwise
+-- between two expressions, by the parent
 abbrev pub expressionCommas : List Entry
 expressionCommas = 33 says " |" ∷ 9 says " ," ∷ 10 says " ," ∷ 30 says " ," ∷ 31 says " ," ∷ []
 
+-- between two of one class, by the class
 abbrev pub listCommas : List Entry
 listCommas = 4 says " ," ∷ 5 says " ," ∷ 13 says " ," ∷ 17 says " ," ∷ 21 says " ," ∷ []
 
+-- between two of class `child`
 unfoldable pub comma : (parent child : ℕ) → List ℕ
 comma p c = if eqb c 30 then textFor expressionCommas p else textFor listCommas c
 
--- before the first of a class
+-- before the first expression, by the parent
 abbrev pub expressionOpens : List Entry
 expressionOpens = 2 says " {" ∷ 3 says " {" ∷ 30 says " <" ∷ 31 says " <" ∷ 32 says " {" ∷ []
 
+-- before the first named node, by the parent
 abbrev pub nodeOpens : List Entry
 nodeOpens = 12 says " @else" ∷ []
 
+-- before the first of a class, by the class
 abbrev pub listOpens : List Entry
 listOpens = 4 says " <" ∷ 5 says " [" ∷ 6 says " =" ∷ 17 says " @conflict {" ∷ []
 
+-- before the first of class `child`
 unfoldable pub opens : (parent child : ℕ) → List ℕ
 opens p c = if eqb c 30 then textFor expressionOpens p else if eqb c 13 then textFor nodeOpens p else textFor listOpens c
 
--- after the last of a class, where another follows
+-- after the last of a class, where another follows, by the class
 abbrev pub listShuts : List Entry
 listShuts = 4 says " >" ∷ 5 says " ]" ∷ 13 says " ," ∷ []
 
+-- after the last of class `child`, where another follows
 unfoldable pub shuts : (child : ℕ) → List ℕ
 shuts c = textFor listShuts c
 
@@ -88,19 +95,23 @@ between p l c =
 unfoldable pub source : (name : List ℕ) → (child : ℕ) → List ℕ
 source t c = if eqb c 15 then (letters " " ++ t) ++ letters " from" else []
 
+-- all that stands between two children
 unfoldable pub link : (parent : Row) → (left child : ℕ) → List ℕ
 link p l c = between (p .kind) l c ++ source (p .text) c
 
--- after a child, whatever follows
+-- after an expression, whatever follows, by the parent
 abbrev pub expressionTails : List Entry
 expressionTails = 18 says " }" ∷ 23 says " } {" ∷ []
 
+-- after a source string, by the parent
 abbrev pub sourceTails : List Entry
 sourceTails = 16 says " {" ∷ 18 says " {" ∷ []
 
+-- after a name, by its class
 abbrev pub nameTails : List Entry
 nameTails = 26 says " as" ∷ []
 
+-- after a child of class `child`
 unfoldable pub tail : (parent child : ℕ) → List ℕ
 tail p c = if eqb c 30 then textFor expressionTails p else if eqb c 15 then textFor sourceTails p else textFor nameTails c
 
@@ -122,39 +133,48 @@ isLine s k = eqb s 1 && not (eqb k 24)
 unfoldable pub tokenless : (kind value : ℕ) → Bool
 tokenless k v = among (33 ∷ 35 ∷ 38 ∷ []) k || (eqb k 34 && eqb v 0)
 
+-- what a record begins with: a bracket, a space or nothing
 unfoldable pub lead : (setting kind value : ℕ) → List ℕ
 lead s k v = if inBrackets s k v then letters " (" else if tokenless k v || isLine s k then [] else letters " "
 
+-- what a record ends with: a bracket, a line feed or nothing
 unfoldable pub ends : (setting kind value : ℕ) → List ℕ
 ends s k v = if inBrackets s k v then letters " )" else if isLine s k then letters "\n" else []
 
 -- ------------------------------------------------------------------ one record
 
--- before its text: by its value for some kinds, by its kind otherwise
+-- before its text, for a prop, by its value
 abbrev pub propWords : List Entry
 propWords = 1 says "@" ∷ []
 
+-- an external specializer, by its value
 abbrev pub externalWords : List Entry
 externalWords = 1 says "@external extend {" ∷ 2 says "@external specialize {" ∷ []
 
+-- a specialize, by its value
 abbrev pub specializeWords : List Entry
 specializeWords = 1 says "@extend" ∷ 2 says "@specialize" ∷ []
 
+-- a sequence that is explicitly empty
 abbrev pub sequenceWords : List Entry
 sequenceWords = 1 says "( )" ∷ []
 
+-- a set, by its value
 abbrev pub setWords : List Entry
 setWords = 0 says "$[" ∷ 1 says "![" ∷ []
 
+-- a class, by its value
 abbrev pub classWords : List Entry
 classWords = 0 says "@asciiLetter" ∷ 1 says "@asciiLowercase" ∷ 2 says "@asciiUppercase" ∷ 3 says "@digit" ∷ 4 says "@whitespace" ∷ 5 says "@eof" ∷ []
 
+-- any other, by its kind
 abbrev pub kindWords : List Entry
 kindWords =
     2 says "@top " ∷ 7 says "{ " ∷ 8 says "@tokens {" ∷ 9 says "@precedence {" ∷ 10 says "@conflict {" ∷ 12 says "@local tokens {"
     ∷ 14 says "@context" ∷ 16 says "@external tokens" ∷ 19 says "@external propSource" ∷ 20 says "@precedence {" ∷ 22 says "@skip {"
     ∷ 23 says "@skip {" ∷ 25 says "@external prop" ∷ 39 says "_" ∷ 41 says "~ " ∷ 42 says "! " ∷ []
 
+-- before a record's text
 unfoldable pub before : (kind value : ℕ) → List ℕ
 before k v =
     if eqb k 5 then textFor propWords v
@@ -173,26 +193,31 @@ spelled r =
     else if among (14 ∷ 16 ∷ 18 ∷ 19 ∷ 25 ∷ []) (r .kind) then []
     else r .text
 
--- after it
+-- after the text of an item of `@precedence`, by its value
 abbrev pub precWords : List Entry
 precWords = 1 says " @left" ∷ 2 says " @right" ∷ 3 says " @cut" ∷ []
 
+-- after a part `{name}`
 abbrev pub partEnds : List Entry
 partEnds = 7 says " }" ∷ []
 
+-- after a record's text
 unfoldable pub after : (kind value : ℕ) → List ℕ
 after k v = if eqb k 21 then textFor precWords v else textFor partEnds k
 
+-- a record without its children
 unfoldable pub own : Row → List ℕ
 own r = (before (r .kind) (r .value) ++ spelled r) ++ after (r .kind) (r .value)
 
--- after its children, the last of which is of a class, or 0
+-- after what a repeat repeats, by its value
 abbrev pub repeatWords : List Entry
 repeatWords = 0 says " ?" ∷ 1 says " *" ∷ 2 says " +" ∷ []
 
+-- the end of the last list, by the class of the last child
 abbrev pub listEnds : List Entry
 listEnds = 5 says " ]" ∷ 30 says " >" ∷ []
 
+-- the end of any other record, by its kind
 abbrev pub kindEnds : List Entry
 kindEnds =
     2 says " }" ∷ 3 says " }" ∷ 8 says " }" ∷ 9 says " }" ∷ 10 says " }" ∷ 12 says " }" ∷ 18 says " }" ∷ 20 says " }" ∷ 22 says " }"
@@ -202,6 +227,7 @@ kindEnds =
 unfoldable pub blockEnd : (last : ℕ) → List ℕ
 blockEnd l = if eqb l 17 then letters " } }" else letters " }"
 
+-- after a record's children
 unfoldable pub close : (kind value last : ℕ) → List ℕ
 close k v l =
     if eqb k 35 then textFor repeatWords v
@@ -215,9 +241,11 @@ close k v l =
 unfoldable pub lastAt : (words : List ℕ) → ℕ → ℕ
 lastAt ws i = if eqb (wordAt ws i 6) 0 then 0 else class (kindBefore ws i)
 
+-- all before a record's children
 unfoldable pub front : (parent : Row) → (left : ℕ) → Row → List ℕ
 front p l r = (link p l (class (r .kind)) ++ lead (setting (p .kind)) (r .kind) (r .value)) ++ own r
 
+-- all after a record's children
 unfoldable pub back : (parent : ℕ) → Row → (last : ℕ) → List ℕ
 back p r l = (close (r .kind) (r .value) l ++ ends (setting p) (r .kind) (r .value)) ++ tail p (class (r .kind))
 
@@ -231,31 +259,31 @@ unfoldable mutual
   pub branchText : (parent : Row) → (left : ℕ) → Branch → List ℕ
   branchText p l (branch r bs) = (front p l r ++ branchesText r 0 bs) ++ back (p .kind) r (lastClass 0 bs)
 
+  -- branches one after another, the first after a child of class `left`
   pub branchesText : (parent : Row) → (left : ℕ) → Branches → List ℕ
   branchesText p l []ᴮ = []
   branchesText p l (b ∷ᴮ bs) = branchText p l b ++ branchesText p (class (kindOf b)) bs
 
--- the end of a grammar's text
+-- after the last dialect
 abbrev pub dialectEnds : List Entry
 dialectEnds = 24 says " }\n" ∷ []
 
+-- `@detectDelim`, by the grammar's value
 abbrev pub detectWords : List Entry
 detectWords = 1 says "@detectDelim\n" ∷ []
 
+-- what stands after the last declaration
 unfoldable pub closing : (value last : ℕ) → List ℕ
 closing v l = textFor dialectEnds l ++ textFor detectWords v
 
--- the text of a whole tree
-unfoldable pub treeText : Branch → List ℕ
-treeText (branch r bs) = branchesText r 0 bs ++ closing (r .value) (lastClass 0 bs)
-
 -- ------------------------------------------------------------------ what the walk promises
 
--- the branch of the record i is written, as a child of the record `parent`; and so is a run of branches
+-- the branch of the record i is written, as a child of the record `parent`
 abbrev pub WroteOne : (ws ts : List ℕ) → (parent left i : ℕ) → (old new : List ℕ) → (n : ℕ) → Type 0
 WroteOne ws ts parent left i old new n =
     (s : Run ws ts (wordAt ws i 6) i) → Wrote (branchText (rowAt ws ts parent) left (branch (rowAt ws ts i) (s .branches))) old new n
 
+-- a run of branches is written
 abbrev pub WroteRun : (ws ts : List ℕ) → (parent left count end : ℕ) → (old new : List ℕ) → (n : ℕ) → Type 0
 WroteRun ws ts parent left count end old new n =
     (s : Run ws ts count end) → Wrote (branchesText (rowAt ws ts parent) left (s .branches)) old new n

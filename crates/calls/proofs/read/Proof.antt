@@ -51,7 +51,12 @@ same-length-2 c = search needs
 
 returns-3 : tie.Need-returns-3
 unfolding longest
-returns-3 c = (parsed-stored _ _ _ _ _ (c .before .before .before .before .before .before .before .before .before .before .before .before .before .if1 .left) (sym (c .before .before .before .before .before .before .before .before .before .before .before .before .check .ensures) ∙ c .before .before .before .before .before .before .before .before .before .before .enum-told .given .1) (c .before .before .before .before .before .before .before .parse .result) (c .before .before .before .before .before .before .before .parse .ensures) (c .before .n .given .1), parsed-few _ _ _ _ _ (c .before .before .before .before .before .before .before .before .before .before .before .before .before .if1 .left) (sym (c .before .before .before .before .before .before .before .before .before .before .before .before .check .ensures) ∙ c .before .before .before .before .before .before .before .before .before .before .enum-told .given .1) (c .before .before .before .before .before .before .before .parse .result) (c .before .before .before .before .before .before .before .parse .ensures) (c .before .n .given .1))
+returns-3 c =
+    let c7 = c .before .before .before .before .before .before .before in
+    let c10 = c7 .before .before .before in
+    let c13 = c10 .before .before .before in
+    let good = sym (c10 .before .before .check .ensures) ∙ c10 .enum-told .given .1 in
+    (parsed-stored _ _ _ _ _ (c13 .if1 .left) good (c7 .parse .result) (c7 .parse .ensures) (c .before .n .given .1), parsed-few _ _ _ _ _ (c13 .if1 .left) good (c7 .parse .result) (c7 .parse .ensures) (c .before .n .given .1))
 
 same-length-3 : tie.Need-same-length-3
 same-length-3 c = search needs
@@ -61,7 +66,11 @@ same-length-4 c = search needs
 
 returns-4 : tie.Need-returns-4
 unfolding longest
-returns-4 c = (parsed-refused _ _ _ _ _ (c .before .before .before .before .before .before .before .before .before .before .before .before .before .before .if1 .left) (sym (c .before .before .before .before .before .before .before .before .before .before .before .before .before .check .ensures) ∙ c .before .before .before .before .before .before .before .before .before .before .before .enum-told .given .1) (c .before .before .before .before .before .before .before .before .parse .result) (c .before .before .before .before .before .before .before .before .parse .ensures) (c .refuse3 .result) (c .before .before .cause .given .1) (c .refuse3 .ensures), tt)
+returns-4 c =
+    let c8 = c .before .before .before .before .before .before .before .before in
+    let c11 = c8 .before .before .before in
+    let c14 = c11 .before .before .before in
+    (parsed-refused _ _ _ _ _ (c14 .if1 .left) (sym (c11 .before .before .check .ensures) ∙ c11 .enum-told .given .1) (c8 .parse .result) (c8 .parse .ensures) (c .refuse3 .result) (c .before .before .cause .given .1) (c .refuse3 .ensures), tt)
 
 pub read-spec : {M : Type 1} → statement M
 read-spec =

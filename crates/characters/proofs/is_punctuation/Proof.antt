@@ -1,5 +1,7 @@
 -- `characters::is_punctuation` meets its contract: an arm for each code of the definition, and the rest. Assumes nothing.
-use borrow.Author.Tests.{ne-eqb}
+use mathlib.Core.Path.{sym}
+use Rattle.basics.specs.Basics.{letters}
+use Rattle.basics.proofs.Tests.{not-among}
 use Rattle.characters.specs.Classes.{isPunctuation}
 use Rattle.characters.proofs.is_punctuation.Statement.{statement}
 use Rattle.characters.proofs.is_punctuation.Tie as tie
@@ -28,24 +30,4 @@ is-punctuation-spec =
     (λ c. rw (c .match .keys17))
     (λ c. rw (c .match .keys18))
     (λ c. rw (c .match .keys19))
-    (λ c. simp (
-      ne-eqb _ _ (c .match .rest .0 .0 .0 .0 .0 .0 .0 .0 .0 .0 .0 .0 .0 .0 .0 .0 .0 .0 .1),
-      ne-eqb _ _ (c .match .rest .0 .0 .0 .0 .0 .0 .0 .0 .0 .0 .0 .0 .0 .0 .0 .0 .0 .1),
-      ne-eqb _ _ (c .match .rest .0 .0 .0 .0 .0 .0 .0 .0 .0 .0 .0 .0 .0 .0 .0 .0 .1),
-      ne-eqb _ _ (c .match .rest .0 .0 .0 .0 .0 .0 .0 .0 .0 .0 .0 .0 .0 .0 .0 .1),
-      ne-eqb _ _ (c .match .rest .0 .0 .0 .0 .0 .0 .0 .0 .0 .0 .0 .0 .0 .0 .1),
-      ne-eqb _ _ (c .match .rest .0 .0 .0 .0 .0 .0 .0 .0 .0 .0 .0 .0 .0 .1),
-      ne-eqb _ _ (c .match .rest .0 .0 .0 .0 .0 .0 .0 .0 .0 .0 .0 .0 .1),
-      ne-eqb _ _ (c .match .rest .0 .0 .0 .0 .0 .0 .0 .0 .0 .0 .0 .1),
-      ne-eqb _ _ (c .match .rest .0 .0 .0 .0 .0 .0 .0 .0 .0 .0 .1),
-      ne-eqb _ _ (c .match .rest .0 .0 .0 .0 .0 .0 .0 .0 .0 .1),
-      ne-eqb _ _ (c .match .rest .0 .0 .0 .0 .0 .0 .0 .0 .1),
-      ne-eqb _ _ (c .match .rest .0 .0 .0 .0 .0 .0 .0 .1),
-      ne-eqb _ _ (c .match .rest .0 .0 .0 .0 .0 .0 .1),
-      ne-eqb _ _ (c .match .rest .0 .0 .0 .0 .0 .1),
-      ne-eqb _ _ (c .match .rest .0 .0 .0 .0 .1),
-      ne-eqb _ _ (c .match .rest .0 .0 .0 .1),
-      ne-eqb _ _ (c .match .rest .0 .0 .1),
-      ne-eqb _ _ (c .match .rest .0 .1),
-      ne-eqb _ _ (c .match .rest .1),
-    )))
+    (λ c. sym (not-among (letters "[]()!~+*?{}<>.,|:$=") _ (c .match .rest))))

@@ -4,7 +4,7 @@ use mathlib.Core.Path.{_≡_, refl, sym, _∙_}
 use mathlib.Core.Logic.{⊎-elim}
 use denote.Ref.{now}
 use lib.ListN.{length, drop}
-use borrow.Author.Tests.{not-true, not-false}
+use borrow.Author.Tests.{not-false}
 use Rattle.characters.specs.Places.{run}
 use Rattle.characters.specs.Classes.{isAscii}
 use Rattle.characters.proofs.Skips.{run-part, run-next, run-stop, run-end, ascii-yes, ascii-no}

@@ -32,7 +32,11 @@ same-length-2 : tie.Need-same-length-2
 same-length-2 c = search needs
 
 returns-2 : tie.Need-returns-2
-returns-2 c = refused-prints _ _ _ _ _ _ (c .before .before .before .before .before .before .before .before .before .before .before .before .before .before .before .before .before .pre) (c .before .before .before .before .before .before .before .before .before .before .before .normal-text .ensures) (c .before .before .before .before .before .refusal .given .1) (c .before .before .put-refusal .ensures)
+returns-2 c =
+    let c5 = c .before .before .before .before .before in
+    let c11 = c5 .before .before .before .before .before .before in
+    let c17 = c11 .before .before .before .before .before .before in
+    refused-prints _ _ _ _ _ _ (c17 .pre) (c11 .normal-text .ensures) (c5 .refusal .given .1) (c .before .before .put-refusal .ensures)
 
 pub answer-spec : {M : Type 1} → statement M
 answer-spec =

@@ -34,7 +34,10 @@ loop-less : tie.Need-loop-less Inv-loop μ-loop
 loop-less c = search needs
 
 loop-again : tie.Need-loop-again Inv-loop μ-loop
-loop-again c = (omega arith, omega (arith, c .before .before .put-byte .ensures .counts), rw (take-next (c .before .before .before .before .before .before .loop .i) (c .before .before .before .before .before .before .before .before .before .args .place) (c .before .before .before .before .before .before .before .before .before .args .texts .now) (omega arith)) (adds-then (c .before .before .before .before .before .before .loop .inv .2) (c .before .before .put-byte .ensures)))
+loop-again c =
+    let c6 = c .before .before .before .before .before .before in
+    let c9 = c6 .before .before .before in
+    (omega arith, omega (arith, c .before .before .put-byte .ensures .counts), rw (take-next (c6 .loop .i) (c9 .args .place) (c9 .args .texts .now) (omega arith)) (adds-then (c6 .loop .inv .2) (c .before .before .put-byte .ensures)))
 
 same-length : tie.Need-same-length Inv-loop μ-loop
 same-length c = c .before .loop .inv .2 .same

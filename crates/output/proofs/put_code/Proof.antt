@@ -20,13 +20,24 @@ put-hex-requires : tie.Need-put-hex-requires
 put-hex-requires c κs = search needs
 
 put-byte-requires-4 : tie.Need-put-byte-requires-4
-put-byte-requires-4 c κs = omega (arith, c .before .before .before .put-hex .ensures .counts, c .before .before .before .before .before .before .before .put-byte3 .ensures .counts, c .before .before .before .before .before .before .before .before .before .before .before .put-byte2 .ensures .counts, c .before .before .before .before .before .before .before .before .before .before .before .before .before .before .before .put-byte .ensures .counts, hex-small 6 (c .before .before .before .before .before .before .before .before .before .before .before .before .before .before .before .before .before .before .args .code) [])
+put-byte-requires-4 c κs =
+    let c3 = c .before .before .before in
+    let c7 = c3 .before .before .before .before in
+    let c11 = c7 .before .before .before .before in
+    let c15 = c11 .before .before .before .before in
+    let c18 = c15 .before .before .before in
+    omega (arith, c3 .put-hex .ensures .counts, c7 .put-byte3 .ensures .counts, c11 .put-byte2 .ensures .counts, c15 .put-byte .ensures .counts, hex-small 6 (c18 .args .code) [])
 
 same-length : tie.Need-same-length
 same-length c = search needs
 
 returns : tie.Need-returns
-returns c = rw (← code-parts _) (adds-then (adds-then (adds-then (adds-then (c .before .before .before .before .before .before .before .before .before .before .before .before .before .before .before .before .before .before .put-byte .ensures) (c .before .before .before .before .before .before .before .before .before .before .before .before .before .before .put-byte2 .ensures)) (c .before .before .before .before .before .before .before .before .before .before .put-byte3 .ensures)) (c .before .before .before .before .before .before .put-hex .ensures)) (c .before .before .put-byte4 .ensures))
+returns c =
+    let c6 = c .before .before .before .before .before .before in
+    let c10 = c6 .before .before .before .before in
+    let c14 = c10 .before .before .before .before in
+    let c18 = c14 .before .before .before .before in
+    rw (← code-parts _) (adds-then (adds-then (adds-then (adds-then (c18 .put-byte .ensures) (c14 .put-byte2 .ensures)) (c10 .put-byte3 .ensures)) (c6 .put-hex .ensures)) (c .before .before .put-byte4 .ensures))
 
 pub put-code-spec : {M : Type 1} → statement M
 put-code-spec =

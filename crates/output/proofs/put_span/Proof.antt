@@ -25,4 +25,9 @@ put-span-spec =
     (λ c κs. search needs)
     (λ c κs. omega (arith, c .before .before .before .before .before .before .before .before .before .before .before .put-code .ensures .counts, c .before .before .before .before .put-byte .ensures .counts, code-small (c .before .before .before .before .before .before .before .before .before .before .before .before .before .before .args .first)))
     (λ c. search needs)
-    (λ c. rw (ne-eqb (c .before .before .before .before .before .before .before .before .before .before .before .before .before .before .before .before .before .args .first + 1) (c .before .before .before .before .before .before .before .before .before .before .before .before .before .before .before .before .before .args .past) (λ e. c .before .before .before .before .before .before .before .before .before .if1 .left (omega (arith, c .before .before .before .before .before .before .before .before .before .before .before .wide .ensures, c .before .before .before .before .before .before .before .before .before .before .wide2 .ensures, e)))) (adds-then (adds-then (c .before .before .before .before .before .before .before .before .before .before .before .before .before .before .put-code .ensures) (c .before .before .before .before .before .before .before .put-byte .ensures)) (rw (c .before .before .before .last-code .ensures) at (c .before .before .put-code2 .ensures)))))
+    (λ c. let c3 = c .before .before .before in
+    let c7 = c3 .before .before .before .before in
+    let c10 = c7 .before .before .before in
+    let c14 = c10 .before .before .before .before in
+    let c17 = c14 .before .before .before in
+    rw (ne-eqb (c17 .args .first + 1) (c17 .args .past) (λ e. c7 .before .before .if1 .left (omega (arith, c10 .before .wide .ensures, c10 .wide2 .ensures, e)))) (adds-then (adds-then (c14 .put-code .ensures) (c7 .put-byte .ensures)) (rw (c3 .last-code .ensures) at (c .before .before .put-code2 .ensures)))))

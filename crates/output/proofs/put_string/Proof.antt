@@ -42,7 +42,10 @@ loop-less : tie.Need-loop-less Inv-loop μ-loop
 loop-less c = search needs
 
 loop-again : tie.Need-loop-again Inv-loop μ-loop
-loop-again c = (omega arith, omega (arith, c .before .before .put-escaped .ensures .counts, quoted-small (getD (c .before .before .before .before .before .before .before .before .before .before .before .before .before .args .texts .now) (c .before .before .before .before .before .before .before .before .before .before .before .before .before .args .place + c .before .before .before .before .before .before .loop .i) 0 ∷ [])), rw (← quoted-next (c .before .before .before .before .before .before .loop .i) (c .before .before .before .before .before .before .before .before .before .before .before .before .before .args .place) (c .before .before .before .before .before .before .before .before .before .before .before .before .before .args .texts .now) (omega arith)) (adds-then (c .before .before .before .before .before .before .loop .inv .2) (c .before .before .put-escaped .ensures)))
+loop-again c =
+    let c6 = c .before .before .before .before .before .before in
+    let c13 = c6 .before .before .before .before .before .before .before in
+    (omega arith, omega (arith, c .before .before .put-escaped .ensures .counts, quoted-small (getD (c13 .args .texts .now) (c13 .args .place + c6 .loop .i) 0 ∷ [])), rw (← quoted-next (c6 .loop .i) (c13 .args .place) (c13 .args .texts .now) (omega arith)) (adds-then (c6 .loop .inv .2) (c .before .before .put-escaped .ensures)))
 
 put-byte-requires-2 : tie.Need-put-byte-requires-2 Inv-loop μ-loop
 put-byte-requires-2 c κs = omega (arith, c .before .before .before .before .before .put-byte .ensures .counts)
@@ -51,7 +54,11 @@ same-length : tie.Need-same-length Inv-loop μ-loop
 same-length c = c .before .before .put-byte2 .ensures .same ∙ c .before .before .before .before .before .loop .inv .2 .same ∙ c .before .before .before .before .before .before .before .before .put-byte .ensures .same
 
 returns : tie.Need-returns Inv-loop μ-loop
-returns c = let e : c .before .before .before .before .before .loop .i ≡ c .before .before .before .before .before .before .before .before .before .before .before .before .args .len = omega arith in rw (← string-parts _) (adds-then (adds-then (c .before .before .before .before .before .before .before .before .put-byte .ensures) (rw e at (c .before .before .before .before .before .loop .inv .2))) (c .before .before .put-byte2 .ensures))
+returns c =
+    let c5 = c .before .before .before .before .before in
+    let c8 = c5 .before .before .before in
+    let c12 = c8 .before .before .before .before in
+    let e : c5 .loop .i ≡ c12 .args .len = omega arith in rw (← string-parts _) (adds-then (adds-then (c8 .put-byte .ensures) (rw e at (c5 .loop .inv .2))) (c .before .before .put-byte2 .ensures))
 
 pub put-string-spec : {M : Type 1} → statement M
 put-string-spec =

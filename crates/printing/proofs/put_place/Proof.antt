@@ -30,13 +30,20 @@ put-line-requires : tie.Need-put-line-requires
 put-line-requires c κs = search needs
 
 add-result : tie.Need-add-result
-add-result c = omega (arith, c .before .before .before .before .before .before .before .put-numbered .ensures .counts, numbered-few (letters " at ") (c .before .before .before .before .before .before .before .before .before .before .before .args .place) [], c .before .before .put-line .ensures .counts, line-few (c .before .before .before .before .before .before .before .before .before .before .before .args .line) (c .before .before .before .before .before .before .before .before .before .before .before .args .column))
+add-result c =
+    let c7 = c .before .before .before .before .before .before .before in
+    let c11 = c7 .before .before .before .before in
+    omega (arith, c7 .put-numbered .ensures .counts, numbered-few (letters " at ") (c11 .args .place) [], c .before .before .put-line .ensures .counts, line-few (c11 .args .line) (c11 .args .column))
 
 same-length : tie.Need-same-length
 same-length c = search needs
 
 returns : tie.Need-returns
-returns c = numbered-then (letters " at ") (c .before .before .before .before .before .before .before .before .before .before .before .args .place) (fromLine (c .before .before .before .before .before .before .before .before .before .before .before .args .line) (c .before .before .before .before .before .before .before .before .before .before .before .args .column)) (c .before .before .before .before .before .before .before .put-numbered .ensures) (c .before .before .before .before .upto .ensures) (c .before .before .put-line .ensures)
+returns c =
+    let c4 = c .before .before .before .before in
+    let c7 = c4 .before .before .before in
+    let c11 = c7 .before .before .before .before in
+    numbered-then (letters " at ") (c11 .args .place) (fromLine (c11 .args .line) (c11 .args .column)) (c7 .put-numbered .ensures) (c4 .upto .ensures) (c .before .before .put-line .ensures)
 
 pub put-place-spec : {M : Type 1} → statement M
 put-place-spec =

@@ -37,14 +37,21 @@ put-place-requires : tie.Need-put-place-requires
 put-place-requires c κs = search needs
 
 add-result : tie.Need-add-result
-add-result c = omega (arith, c .before .before .before .before .before .before .before .put-numbered .ensures .counts, numbered-few (letters "refused ") (c .before .before .before .before .before .before .before .before .before .number .result) [], c .before .before .put-place .ensures .counts, place-few (c .before .before .before .before .before .before .before .before .before .before .before .before .args .refusal .place) (c .before .before .before .before .before .before .before .before .before .before .before .before .args .refusal .line) (c .before .before .before .before .before .before .before .before .before .before .before .before .args .refusal .column))
+add-result c =
+    let c7 = c .before .before .before .before .before .before .before in
+    let c12 = c7 .before .before .before .before .before in
+    omega (arith, c7 .put-numbered .ensures .counts, numbered-few (letters "refused ") (c7 .before .before .number .result) [], c .before .before .put-place .ensures .counts, place-few (c12 .args .refusal .place) (c12 .args .refusal .line) (c12 .args .refusal .column))
 
 same-length : tie.Need-same-length
 same-length c = search needs
 
 returns : tie.Need-returns
 unfolding refusalLine
-returns c = rw (c .before .before .before .before .before .before .before .before .before .number .ensures) at (numbered-then (letters "refused ") (c .before .before .before .before .before .before .before .before .before .number .result) (fromPlace (c .before .before .before .before .before .before .before .before .before .before .before .before .args .refusal .place) (c .before .before .before .before .before .before .before .before .before .before .before .before .args .refusal .line) (c .before .before .before .before .before .before .before .before .before .before .before .before .args .refusal .column)) (c .before .before .before .before .before .before .before .put-numbered .ensures) (c .before .before .before .before .upto .ensures) (c .before .before .put-place .ensures))
+returns c =
+    let c4 = c .before .before .before .before in
+    let c7 = c4 .before .before .before in
+    let c12 = c7 .before .before .before .before .before in
+    rw (c7 .before .before .number .ensures) at (numbered-then (letters "refused ") (c7 .before .before .number .result) (fromPlace (c12 .args .refusal .place) (c12 .args .refusal .line) (c12 .args .refusal .column)) (c7 .put-numbered .ensures) (c4 .upto .ensures) (c .before .before .put-place .ensures))
 
 pub put-refusal-spec : {M : Type 1} → statement M
 put-refusal-spec =

@@ -54,7 +54,10 @@ loop-less : tie.Need-loop-less Inv-loop μ-loop
 loop-less c = search needs
 
 loop-again : tie.Need-loop-again Inv-loop μ-loop
-loop-again c = (omega arith, omega (arith, rest-within (c .before .before .before .before .before .before .read-some .result) (c .before .before .before .before .before .before .before .before .before .loop .buf) (c .before .before .before .before .before .before .read-some .ensures) (c .before .before .more .given .1) (c .before .before .before .before .before .before .before .before .before .loop .inv .1)))
+loop-again c =
+    let c6 = c .before .before .before .before .before .before in
+    let c9 = c6 .before .before .before in
+    (omega arith, omega (arith, rest-within (c6 .read-some .result) (c9 .loop .buf) (c6 .read-some .ensures) (c .before .before .more .given .1) (c9 .loop .inv .1)))
 
 same-length-3 : tie.Need-same-length-3 Inv-loop μ-loop
 same-length-3 c = search needs

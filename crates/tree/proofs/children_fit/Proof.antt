@@ -1,11 +1,11 @@
 -- `tree::children_fit` meets its contract. The loop's invariant: the groups that are left match the children that are left just where all
 -- groups match all children. Assumes nothing.
-use Prim.Native.Nat.{ℕ, _+_, _-_, _≤_}
-use mathlib.Core.Path.{_≡_, refl, sym, _∙_}
+use Prim.Native.Nat.{_+_, _-_, _≤_}
+use mathlib.Core.Path.{_≡_, sym, _∙_}
 use native.Mathlib.Omega.{arith}
 use borrow.Author.Tests.{not-true, not-false}
 use lib.ListN.{length}
-use Rattle.tree.specs.OneTree.{childrenFit, matches}
+use Rattle.tree.specs.OneTree.{childrenFit}
 use Rattle.tree.specs.Promise.{countOf, kindsBack}
 use Rattle.tree.proofs.Matching.{begun, left-over, many-child, many-over, one-child, one-missing, most-child, most-over, over-end, over-all}
 use Rattle.tree.proofs.children_fit.Statement.{statement}

@@ -1,5 +1,5 @@
 -- `tree::first` meets its contract. The loop's invariant: what is left to count back gives the same record. Assumes nothing.
-use Prim.Native.Nat.{ℕ, _≤_}
+use Prim.Native.Nat.{_≤_}
 use mathlib.Core.Path.{_≡_, refl, sym, _∙_}
 use native.Mathlib.Omega.{arith}
 use Rattle.tree.specs.Promise.{firstOf}

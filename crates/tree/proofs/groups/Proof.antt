@@ -63,4 +63,36 @@ groups-spec =
     (λ c. rw (c .before .match .keys23) (c .slots .ensures))
     (λ c. rw (c .before .match .keys24) (c .one-group11 .ensures))
     (λ c. rw (c .before .match .keys25) (c .one-group12 .ensures))
-    (λ c. simp (ne-eqb _ _ (c .before .match .rest .0 .0 .0 .0 .0 .0 .0 .0 .0 .0 .0 .0 .0 .0 .0 .0 .0 .0 .0 .0 .0 .0 .0 .0 .1), ne-eqb _ _ (c .before .match .rest .0 .0 .0 .0 .0 .0 .0 .0 .0 .0 .0 .0 .0 .0 .0 .0 .0 .0 .0 .0 .0 .0 .0 .1), ne-eqb _ _ (c .before .match .rest .0 .0 .0 .0 .0 .0 .0 .0 .0 .0 .0 .0 .0 .0 .0 .0 .0 .0 .0 .0 .0 .0 .1), ne-eqb _ _ (c .before .match .rest .0 .0 .0 .0 .0 .0 .0 .0 .0 .0 .0 .0 .0 .0 .0 .0 .0 .0 .0 .0 .0 .1), ne-eqb _ _ (c .before .match .rest .0 .0 .0 .0 .0 .0 .0 .0 .0 .0 .0 .0 .0 .0 .0 .0 .0 .0 .0 .0 .1), ne-eqb _ _ (c .before .match .rest .0 .0 .0 .0 .0 .0 .0 .0 .0 .0 .0 .0 .0 .0 .0 .0 .0 .0 .0 .1), ne-eqb _ _ (c .before .match .rest .0 .0 .0 .0 .0 .0 .0 .0 .0 .0 .0 .0 .0 .0 .0 .0 .0 .0 .1), ne-eqb _ _ (c .before .match .rest .0 .0 .0 .0 .0 .0 .0 .0 .0 .0 .0 .0 .0 .0 .0 .0 .0 .1), ne-eqb _ _ (c .before .match .rest .0 .0 .0 .0 .0 .0 .0 .0 .0 .0 .0 .0 .0 .0 .0 .0 .1), ne-eqb _ _ (c .before .match .rest .0 .0 .0 .0 .0 .0 .0 .0 .0 .0 .0 .0 .0 .0 .0 .1), ne-eqb _ _ (c .before .match .rest .0 .0 .0 .0 .0 .0 .0 .0 .0 .0 .0 .0 .0 .0 .1), ne-eqb _ _ (c .before .match .rest .0 .0 .0 .0 .0 .0 .0 .0 .0 .0 .0 .0 .0 .1), ne-eqb _ _ (c .before .match .rest .0 .0 .0 .0 .0 .0 .0 .0 .0 .0 .0 .0 .1), ne-eqb _ _ (c .before .match .rest .0 .0 .0 .0 .0 .0 .0 .0 .0 .0 .0 .1), ne-eqb _ _ (c .before .match .rest .0 .0 .0 .0 .0 .0 .0 .0 .0 .0 .1), ne-eqb _ _ (c .before .match .rest .0 .0 .0 .0 .0 .0 .0 .0 .0 .1), ne-eqb _ _ (c .before .match .rest .0 .0 .0 .0 .0 .0 .0 .0 .1), ne-eqb _ _ (c .before .match .rest .0 .0 .0 .0 .0 .0 .0 .1), ne-eqb _ _ (c .before .match .rest .0 .0 .0 .0 .0 .0 .1), ne-eqb _ _ (c .before .match .rest .0 .0 .0 .0 .0 .1), ne-eqb _ _ (c .before .match .rest .0 .0 .0 .0 .1), ne-eqb _ _ (c .before .match .rest .0 .0 .0 .1), ne-eqb _ _ (c .before .match .rest .0 .0 .1), ne-eqb _ _ (c .before .match .rest .0 .1), ne-eqb _ _ (c .before .match .rest .1), neither 2 3 _ refl (c .before .match .rest .0 .0 .0 .0 .0 .0 .0 .0 .0 .0 .0 .0 .0 .0 .0 .0 .0 .0 .0 .0 .0 .0 .0 .1) (c .before .match .rest .0 .0 .0 .0 .0 .0 .0 .0 .0 .0 .0 .0 .0 .0 .0 .0 .0 .0 .0 .0 .0 .0 .1)) (c .one-group13 .ensures)))
+    (λ c. let r = c .before .match .rest in
+    let r5 = r .0 .0 .0 .0 .0 in
+    let r10 = r5 .0 .0 .0 .0 .0 in
+    let r15 = r10 .0 .0 .0 .0 .0 in
+    let r20 = r15 .0 .0 .0 .0 .0 in
+    simp (
+      ne-eqb _ _ (r20 .0 .0 .0 .0 .1),
+      ne-eqb _ _ (r20 .0 .0 .0 .1),
+      ne-eqb _ _ (r20 .0 .0 .1),
+      ne-eqb _ _ (r20 .0 .1),
+      ne-eqb _ _ (r20 .1),
+      ne-eqb _ _ (r15 .0 .0 .0 .0 .1),
+      ne-eqb _ _ (r15 .0 .0 .0 .1),
+      ne-eqb _ _ (r15 .0 .0 .1),
+      ne-eqb _ _ (r15 .0 .1),
+      ne-eqb _ _ (r15 .1),
+      ne-eqb _ _ (r10 .0 .0 .0 .0 .1),
+      ne-eqb _ _ (r10 .0 .0 .0 .1),
+      ne-eqb _ _ (r10 .0 .0 .1),
+      ne-eqb _ _ (r10 .0 .1),
+      ne-eqb _ _ (r10 .1),
+      ne-eqb _ _ (r5 .0 .0 .0 .0 .1),
+      ne-eqb _ _ (r5 .0 .0 .0 .1),
+      ne-eqb _ _ (r5 .0 .0 .1),
+      ne-eqb _ _ (r5 .0 .1),
+      ne-eqb _ _ (r5 .1),
+      ne-eqb _ _ (r .0 .0 .0 .0 .1),
+      ne-eqb _ _ (r .0 .0 .0 .1),
+      ne-eqb _ _ (r .0 .0 .1),
+      ne-eqb _ _ (r .0 .1),
+      ne-eqb _ _ (r .1),
+      neither 2 3 _ refl (r20 .0 .0 .0 .1) (r20 .0 .0 .1),
+    ) (c .one-group13 .ensures)))

@@ -1,5 +1,7 @@
 -- `tree::is_expression` meets its contract: an arm for each kind of the definition, and the rest. Assumes nothing.
-use borrow.Author.Tests.{ne-eqb}
+use mathlib.Core.Path.{sym}
+use Rattle.basics.proofs.Tests.{not-among}
+use Rattle.tree.specs.OneTree.{expressionKinds}
 use Rattle.tree.proofs.is_expression.Statement.{statement}
 use Rattle.tree.proofs.is_expression.Tie as tie
 
@@ -17,4 +19,4 @@ is-expression-spec =
     (λ c. rw (c .match .keys8))
     (λ c. rw (c .match .keys9))
     (λ c. rw (c .match .keys10))
-    (λ c. simp (ne-eqb _ _ (c .match .rest .0 .0 .0 .0 .0 .0 .0 .0 .0 .1), ne-eqb _ _ (c .match .rest .0 .0 .0 .0 .0 .0 .0 .0 .1), ne-eqb _ _ (c .match .rest .0 .0 .0 .0 .0 .0 .0 .1), ne-eqb _ _ (c .match .rest .0 .0 .0 .0 .0 .0 .1), ne-eqb _ _ (c .match .rest .0 .0 .0 .0 .0 .1), ne-eqb _ _ (c .match .rest .0 .0 .0 .0 .1), ne-eqb _ _ (c .match .rest .0 .0 .0 .1), ne-eqb _ _ (c .match .rest .0 .0 .1), ne-eqb _ _ (c .match .rest .0 .1), ne-eqb _ _ (c .match .rest .1))))
+    (λ c. sym (not-among expressionKinds _ (c .match .rest))))

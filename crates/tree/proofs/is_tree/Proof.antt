@@ -1,13 +1,12 @@
 -- `tree::is_tree` meets its contract. The loop's invariant: the branches of the records so far stand in the words, `depth` of them, and the
 -- records that are left give the tree from there. Assumes nothing.
-use Prim.Native.Nat.{ℕ, _+_, _-_, _*_, _/_, _≤_}
-use mathlib.Core.Path.{_≡_, refl, ap, sym, _∙_}
+use Prim.Native.Nat.{_+_, _-_, _≤_}
+use mathlib.Core.Path.{ap, sym, _∙_}
 use native.Mathlib.Omega.{arith}
 use borrow.Author.Tests.{not-true, not-false}
 use lib.ListN.{length}
-use Rattle.tree.specs.OneTree.{build, rooted}
-use Rattle.tree.specs.Promise.{recordAt, kindsBack, wordAt, rootOf, isSome}
-use Rattle.tree.proofs.Trees.{Grown, grownOf, grown-first, grown-few, build-whole, build-broken, no-tree, too-few, misfit, grow, record-inside, rooted-last, more-left}
+use Rattle.tree.specs.Promise.{isSome}
+use Rattle.tree.proofs.Trees.{Grown, grownOf, grown-first, grown-few, build-broken, no-tree, too-few, misfit, grow, record-inside, rooted-last, more-left}
 use Rattle.tree.proofs.is_tree.Statement.{statement}
 use Rattle.tree.proofs.is_tree.Tie as tie
 
@@ -68,12 +67,15 @@ loop-less : tie.Need-loop-less Inv-loop μ-loop
 loop-less c = omega arith
 
 loop-again : tie.Need-loop-again Inv-loop μ-loop
-loop-again c = (
-  omega arith,
-  rw (c .wide2 .ensures, c .before .word2 .ensures) (record-inside _ _ _ _ (sym (c .before .before .before .record-fits .ensures) ∙ not-false _ (c .before .before .if3 .left)) (c .before .before .before .before .before .before .before .before .loop .inv .1) .1),
-  rw (c .wide2 .ensures, c .before .word2 .ensures, c .before .before .before .before .before .wide .ensures, c .before .before .before .before .before .before .word .ensures)
-      (grow _ _ _ _ (c .before .before .before .before .before .before .before .before .before .before .count .result - c .before .before .before .before .before .before .before .before .loop .i) (c .before .before .before .before .before .before .before .before .before .before .count .result - (c .before .before .before .before .before .before .before .before .loop .i + 1)) (omega arith) (c .before .before .before .before .before .before .before .before .loop .inv .2) (rw (c .before .before .before .before .before .wide .ensures, c .before .before .before .before .before .before .word .ensures) at (c .before .before .before .before .if2 .left)) (sym (c .before .before .before .record-fits .ensures) ∙ not-false _ (c .before .before .if3 .left)) (c .before .before .before .before .before .before .before .before .loop .inv .1)),
-)
+loop-again c =
+    let c3 = c .before .before .before in
+    let c6 = c3 .before .before .before in
+    let c10 = c6 .before .before .before .before in (
+      omega arith,
+      rw (c .wide2 .ensures, c .before .word2 .ensures) (record-inside _ _ _ _ (sym (c3 .record-fits .ensures) ∙ not-false _ (c .before .before .if3 .left)) (c6 .before .before .loop .inv .1) .1),
+      rw (c .wide2 .ensures, c .before .word2 .ensures, c3 .before .before .wide .ensures, c6 .word .ensures)
+          (grow _ _ _ _ (c10 .count .result - c6 .before .before .loop .i) (c10 .count .result - (c6 .before .before .loop .i + 1)) (omega arith) (c6 .before .before .loop .inv .2) (rw (c3 .before .before .wide .ensures, c6 .word .ensures) at (c3 .before .if2 .left)) (sym (c3 .record-fits .ensures) ∙ not-false _ (c .before .before .if3 .left)) (c6 .before .before .loop .inv .1)),
+    )
 
 returns-4 : tie.Need-returns-4 Inv-loop μ-loop
 returns-4 c =

@@ -1,5 +1,5 @@
 -- `tree::put` meets its contract. Assumes nothing.
-use mathlib.Core.Path.{_≡_, refl, sym}
+use mathlib.Core.Path.{refl, sym}
 use native.Mathlib.Omega.{arith}
 use lib.ListN.{length-set}
 use Rattle.characters.proofs.Written.{written-not}

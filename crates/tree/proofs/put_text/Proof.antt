@@ -1,9 +1,9 @@
 -- `tree::put_text` meets its contract. The loop's invariant: the first i bytes are copied. Assumes nothing.
-use Prim.Native.Nat.{ℕ, suc, _+_, _-_, _≤_}
+use Prim.Native.Nat.{_+_, _-_, _≤_}
 use mathlib.Core.Path.{_≡_, refl, ap, sym, _∙_}
 use native.Mathlib.Omega.{arith}
 use native.Mathlib.Numerals.{add-one}
-use lib.ListN.{length, set, length-set}
+use lib.ListN.{length}
 use lib.Seq.{paste, paste-zero, paste-suc, length-paste}
 use Rattle.characters.proofs.Written.{written-not}
 use Rattle.tree.proofs.Stores.{pasted}

@@ -3,7 +3,7 @@ use borrow.Author.Needs.{needs}
 use borrow.Author.Tests.{not-true, not-false}
 use native.Mathlib.Omega.{arith}
 use mathlib.Core.Bool.{and-true, and-false}
-use mathlib.Core.Path.{_≡_, refl, _∙_, sym}
+use mathlib.Core.Path.{_∙_, sym}
 use Rattle.tree.specs.OneTree.{recordFits}
 use Rattle.tree.proofs.record_fits.Statement.{statement}
 use Rattle.tree.proofs.record_fits.Tie as tie
@@ -51,7 +51,10 @@ children-fit-requires c κs = omega arith
 returns-4 : tie.Need-returns-4
 unfolding recordFits
 returns-4 c =
-    rw (sym (c .before .before .before .before .text-fits .ensures) ∙ not-false _ (c .before .before .before .if3 .left), ← c .before .before .before .before .before .before .before .before .before .before .before .word .ensures, sym (c .before .before .before .before .before .before .before .before .before .before .is-kind .ensures) ∙ not-false _ (c .before .before .before .before .before .before .before .before .before .if1 .left), ← c .before .before .before .before .before .before .before .before .word2 .ensures, ← c .before .before .before .before .before .before .before .word3 .ensures, sym (c .before .before .before .before .before .before .values-fit .ensures) ∙ not-false _ (c .before .before .before .before .before .if2 .left))
+    let c3 = c .before .before .before in
+    let c6 = c3 .before .before .before in
+    let c9 = c6 .before .before .before in
+    rw (sym (c3 .before .text-fits .ensures) ∙ not-false _ (c3 .if3 .left), ← c9 .before .before .word .ensures, sym (c9 .before .is-kind .ensures) ∙ not-false _ (c9 .if1 .left), ← c6 .before .before .word2 .ensures, ← c6 .before .word3 .ensures, sym (c6 .values-fit .ensures) ∙ not-false _ (c3 .before .before .if2 .left))
     (simp and-true (rw (c .before .wide .ensures, c .before .before .word4 .ensures) at (c .children-fit .ensures)))
 
 pub record-fits-spec : {M : Type 1} → statement M

@@ -2,7 +2,7 @@
 use borrow.Author.Needs.{needs}
 use borrow.Author.Tests.{eq-eqb, ne-eqb, not-true, not-false}
 use mathlib.Core.Bool.{and-true, and-false}
-use mathlib.Core.Path.{_≡_, refl, sym, _∙_}
+use mathlib.Core.Path.{sym, _∙_}
 use Rattle.tree.specs.Promise.{sameNode}
 use Rattle.tree.proofs.same_record.Statement.{statement}
 use Rattle.tree.proofs.same_record.Tie as tie
@@ -66,7 +66,12 @@ same-bytes-requires c κs = search needs
 returns-5 : tie.Need-returns-5
 unfolding sameNode
 returns-5 c =
-    rw (← c .before .before .before .before .before .word7 .ensures, ← c .before .before .before .before .word8 .ensures, eq-eqb _ _ (c .before .before .before .if4 .left), ← c .before .before .before .before .before .before .before .before .word5 .ensures, ← c .before .before .before .before .before .before .before .word6 .ensures, eq-eqb _ _ (c .before .before .before .before .before .before .if3 .left), ← c .before .before .before .before .before .before .before .before .before .before .before .before .before .before .before .word .ensures, ← c .before .before .before .before .before .before .before .before .before .before .before .before .word3 .ensures, ← c .before .before .before .before .before .before .before .before .before .before .before .word4 .ensures, sym (c .before .before .before .before .before .before .before .before .before .before .same-value .ensures) ∙ not-false _ (c .before .before .before .before .before .before .before .before .before .if2 .left), ← c .before .before .before .before .before .before .before .before .before .before .before .before .before .before .word2 .ensures, eq-eqb _ _ (c .before .before .before .before .before .before .before .before .before .before .before .before .before .if1 .left))
+    let c3 = c .before .before .before in
+    let c6 = c3 .before .before .before in
+    let c9 = c6 .before .before .before in
+    let c12 = c9 .before .before .before in
+    let c15 = c12 .before .before .before in
+    rw (← c3 .before .before .word7 .ensures, ← c3 .before .word8 .ensures, eq-eqb _ _ (c3 .if4 .left), ← c6 .before .before .word5 .ensures, ← c6 .before .word6 .ensures, eq-eqb _ _ (c6 .if3 .left), ← c15 .word .ensures, ← c12 .word3 .ensures, ← c9 .before .before .word4 .ensures, sym (c9 .before .same-value .ensures) ∙ not-false _ (c9 .if2 .left), ← c12 .before .before .word2 .ensures, eq-eqb _ _ (c12 .before .if1 .left))
     (simp and-true (rw (c .before .before .text .ensures, c .before .text2 .ensures) at (c .same-bytes .ensures)))
 
 pub same-record-spec : {M : Type 1} → statement M

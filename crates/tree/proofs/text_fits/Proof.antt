@@ -2,7 +2,7 @@
 use borrow.Author.Needs.{needs}
 use borrow.Author.Tests.{eq-eqb, ne-eqb, not-true, not-false}
 use native.Mathlib.Omega.{arith}
-use mathlib.Core.Path.{_≡_, refl, _∙_, sym}
+use mathlib.Core.Path.{_∙_, sym}
 use Rattle.tree.specs.OneTree.{textFits}
 use Rattle.tree.proofs.Numbers.{room-test}
 use Rattle.tree.proofs.text_fits.Statement.{statement}
@@ -46,7 +46,10 @@ sub-result c = search needs
 returns-4 : tie.Need-returns-4
 unfolding textFits
 returns-4 c =
-    rw (← (c .before .before .before .before .before .before .before .wide .ensures ∙ c .before .before .before .before .before .before .before .before .word .ensures), ne-eqb _ _ (c .before .before .before .before .if1 .left), ← c .before .before .before .word3 .ensures, sym (c .before .before .has-text .ensures) ∙ not-false _ (c .before .if2 .left), ← (c .before .before .before .before .before .wide2 .ensures ∙ c .before .before .before .before .before .before .word2 .ensures), eq-eqb _ _ (c .if3 .left)) (room-test _ (c .before .before .before .before .before .before .before .before .before .before .args .at) (c .before .before .before .before .before .before .before .before .before .before .args .room) (omega arith))
+    let c3 = c .before .before .before in
+    let c6 = c3 .before .before .before in
+    let c10 = c6 .before .before .before .before in
+    rw (← (c6 .before .wide .ensures ∙ c6 .before .before .word .ensures), ne-eqb _ _ (c3 .before .if1 .left), ← c3 .word3 .ensures, sym (c .before .before .has-text .ensures) ∙ not-false _ (c .before .if2 .left), ← (c3 .before .before .wide2 .ensures ∙ c6 .word2 .ensures), eq-eqb _ _ (c .if3 .left)) (room-test _ (c10 .args .at) (c10 .args .room) (omega arith))
 
 pub text-fits-spec : {M : Type 1} → statement M
 text-fits-spec =

@@ -16,7 +16,10 @@ normal-text-spec =
     (λ c κs. search needs)
     (λ c. omega (arith, c .count .ensures, (some-records (c .before .before .before .before .pre))))
     (λ c κs. omega (arith, c .count .ensures, (some-records (c .before .before .before .before .pre))))
-    (λ c κs. ((lent (c .before .before .before .before .before .before .pre) (λ i. omega (arith, c .before .before .before .before .before .shared-slice-known .given (i * 7 + 3)))), omega (arith, c .before .before .count .ensures, (some-records (c .before .before .before .before .before .before .pre))), omega (arith, c .before .before .count .ensures, (some-records (c .before .before .before .before .before .before .pre))), (root-run (c .before .before .count .ensures) (c .before .children .ensures) (c .before .before .before .before .before .before .pre))))
+    (λ c κs. let c5 = c .before .before .before .before .before in
+    let s = c5 .before .pre in
+    let n = c .before .before .count .ensures in
+    (lent s (λ i. omega (arith, c5 .shared-slice-known .given (i * 7 + 3))), omega (arith, n, some-records s), omega (arith, n, some-records s), root-run n (c .before .children .ensures) s))
     (λ c κs. search needs)
     (λ c κs. (omega (arith, c .before .before .before .before .before .before .count .ensures, (some-records (c .before .before .before .before .before .before .before .before .before .before .pre))), omega arith))
     (λ c κs. omega (arith, c .before .before .before .before .before .before .before .count .ensures, (some-records (c .before .before .before .before .before .before .before .before .before .before .before .pre))))
@@ -24,6 +27,14 @@ normal-text-spec =
     (λ c. search needs)
     (λ c. search needs)
     (λ c κs. search needs)
-    (λ c. omega (arith, c .before .before .before .before .before .before .before .before .before .before .before .before .count .ensures, (c .before .before .before .before .before .before .before .before .before .before .before .before .before .before .before .before .pre) .few, run-small (lent (c .before .before .before .before .before .before .before .before .before .before .before .before .before .before .before .before .pre) (λ i. omega (arith, c .before .before .before .before .before .before .before .before .before .before .before .before .before .before .before .shared-slice-known .given (i * 7 + 3)))) _ _ (root-run (c .before .before .before .before .before .before .before .before .before .before .before .before .count .ensures) (c .before .before .before .before .before .before .before .before .before .before .before .children .ensures) (c .before .before .before .before .before .before .before .before .before .before .before .before .before .before .before .before .pre)) (c .before .before .before .before .before .before .before .before .before .run .ensures (root-run (c .before .before .before .before .before .before .before .before .before .before .before .before .count .ensures) (c .before .before .before .before .before .before .before .before .before .before .before .children .ensures) (c .before .before .before .before .before .before .before .before .before .before .before .before .before .before .before .before .pre))), bounded (c .before .before .put-closing .ensures) (closing-small _ _)))
+    (λ c. let c9 = c .before .before .before .before .before .before .before .before .before in
+    let c12 = c9 .before .before .before in
+    let c15 = c12 .before .before .before in
+    let s = c15 .before .pre in
+    let root = root-run (c12 .count .ensures) (c9 .before .before .children .ensures) s in
+    omega (arith, c12 .count .ensures, s .few, run-small (lent s (λ i. omega (arith, c15 .shared-slice-known .given (i * 7 + 3)))) _ _ root (c9 .run .ensures root), bounded (c .before .before .put-closing .ensures) (closing-small _ _)))
     (λ c. search needs)
-    (λ c. λ s. rw (root-says (c .before .before .before .before .before .before .before .before .before .before .before .before .count .ensures) (c .before .before .before .before .before .before .before .before .before .before .before .children .ensures) s) (then (c .before .before .before .before .before .before .before .before .before .run .ensures (root-run (c .before .before .before .before .before .before .before .before .before .before .before .before .count .ensures) (c .before .before .before .before .before .before .before .before .before .before .before .children .ensures) s)) (c .before .before .before .before .before .before .upto .ensures) (rw (c .before .before .before .before .before .word .ensures, c .before .before .before .before .last-class .ensures) at (c .before .before .put-closing .ensures)))))
+    (λ c. let c4 = c .before .before .before .before in
+    let c9 = c4 .before .before .before .before .before in
+    let c12 = c9 .before .before .before in
+    λ s. rw (root-says (c12 .count .ensures) (c9 .before .before .children .ensures) s) (then (c9 .run .ensures (root-run (c12 .count .ensures) (c9 .before .before .children .ensures) s)) (c4 .before .before .upto .ensures) (rw (c4 .before .word .ensures, c4 .last-class .ensures) at (c .before .before .put-closing .ensures)))))

@@ -32,4 +32,9 @@ put-back-spec =
     (λ c κs. search needs)
     (λ c. omega (arith, bounded (c .before .before .before .before .before .before .before .before .before .before .before .before .before .before .put-close .ensures) (close-small _ _ _), bounded (c .before .before .before .before .before .before .before .before .put-ends .ensures) (ends-small _ _ _), bounded (c .before .before .put-tail .ensures) (tail-small _ _)))
     (λ c. search needs)
-    (λ c. then (then (rw (c .before .before .before .before .before .before .before .before .before .before .before .before .before .before .before .before .before .before .before .word .ensures, c .before .before .before .before .before .before .before .before .before .before .before .before .before .before .before .before .before .before .word2 .ensures, c .before .before .before .before .before .before .before .before .before .before .before .before .before .before .before .before .last-class .ensures) at (c .before .before .before .before .before .before .before .before .before .before .before .before .before .before .put-close .ensures)) (c .before .before .before .before .before .before .before .before .before .before .before .upto .ensures) (rw (c .before .before .before .before .before .before .before .before .before .before .setting .ensures, c .before .before .before .before .before .before .before .before .before .before .before .before .before .before .before .before .before .word3 .ensures, c .before .before .before .before .before .before .before .before .before .before .before .before .before .before .before .before .before .before .before .word .ensures, c .before .before .before .before .before .before .before .before .before .before .before .before .before .before .before .before .before .before .word2 .ensures) at (c .before .before .before .before .before .before .before .before .put-ends .ensures))) (c .before .before .before .before .before .upto2 .ensures) (rw (c .before .before .before .before .class .ensures, c .before .before .before .before .before .before .before .before .before .before .before .before .before .before .before .before .before .word3 .ensures, c .before .before .before .before .before .before .before .before .before .before .before .before .before .before .before .before .before .before .before .word .ensures) at (c .before .before .put-tail .ensures))))
+    (λ c. let c4 = c .before .before .before .before in
+    let c8 = c4 .before .before .before .before in
+    let c11 = c8 .before .before .before in
+    let c14 = c11 .before .before .before in
+    let c17 = c14 .before .before .before in
+    then (then (rw (c17 .before .before .word .ensures, c17 .before .word2 .ensures, c14 .before .before .last-class .ensures) at (c14 .put-close .ensures)) (c11 .upto .ensures) (rw (c8 .before .before .setting .ensures, c17 .word3 .ensures, c17 .before .before .word .ensures, c17 .before .word2 .ensures) at (c8 .put-ends .ensures))) (c4 .before .upto2 .ensures) (rw (c4 .class .ensures, c17 .word3 .ensures, c17 .before .before .word .ensures) at (c .before .before .put-tail .ensures))))

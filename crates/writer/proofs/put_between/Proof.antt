@@ -30,4 +30,6 @@ put-between-spec =
     (λ c. search needs)
     (λ c. rw (c .before .before .before .before .match .keys6) (rw (c .before .before .before .before .match .keys6) at (c .before .before .put-open5 .ensures)))
     (λ c. search needs)
-    (λ c. simp (ne-eqb _ _ (c .before .before .before .before .match .rest .0 .0 .0 .0 .0 .1), ne-eqb _ _ (c .before .before .before .before .match .rest .0 .0 .0 .0 .1), ne-eqb _ _ (c .before .before .before .before .match .rest .0 .0 .0 .1), ne-eqb _ _ (c .before .before .before .before .match .rest .0 .0 .1), ne-eqb _ _ (c .before .before .before .before .match .rest .0 .1), ne-eqb _ _ (c .before .before .before .before .match .rest .1)) (c .before .before .put-separator .ensures)))
+    (λ c. let c4 = c .before .before .before .before in
+    let r = c4 .match .rest in
+    simp (ne-eqb _ _ (r .0 .0 .0 .0 .0 .1), ne-eqb _ _ (r .0 .0 .0 .0 .1), ne-eqb _ _ (r .0 .0 .0 .1), ne-eqb _ _ (r .0 .0 .1), ne-eqb _ _ (r .0 .1), ne-eqb _ _ (r .1)) (c .before .before .put-separator .ensures)))

@@ -34,4 +34,4 @@ put-class-word-spec =
     (λ c. rw (c .before .before .before .before .before .match .keys5) (c .before .before .put5 .ensures))
     (λ c. search needs)
     (λ c. rw (c .before .before .before .before .before .match .keys6) (c .before .before .put6 .ensures))
-    (λ c. no-entry classWords _ _ (c .match .rest .0 .0 .0 .0 .0 .1, (c .match .rest .0 .0 .0 .0 .1, (c .match .rest .0 .0 .0 .1, (c .match .rest .0 .0 .1, (c .match .rest .0 .1, (c .match .rest .1, tt))))))))
+    (λ c. no-entry classWords _ _ (c .match .rest)))

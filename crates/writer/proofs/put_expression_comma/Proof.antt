@@ -30,4 +30,4 @@ put-expression-comma-spec =
     (λ c. rw (c .before .before .before .before .before .match .keys4) (c .before .before .put4 .ensures))
     (λ c. search needs)
     (λ c. rw (c .before .before .before .before .before .match .keys5) (c .before .before .put5 .ensures))
-    (λ c. no-entry expressionCommas _ _ (c .match .rest .0 .0 .0 .0 .1, (c .match .rest .0 .0 .0 .1, (c .match .rest .0 .0 .1, (c .match .rest .0 .1, (c .match .rest .1, tt)))))))
+    (λ c. no-entry expressionCommas _ _ (c .match .rest)))

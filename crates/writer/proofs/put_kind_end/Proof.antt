@@ -62,4 +62,4 @@ put-kind-end-spec =
     (λ c. rw (c .before .before .before .before .before .match .keys12) (c .before .before .put12 .ensures))
     (λ c. search needs)
     (λ c. rw (c .before .before .before .before .before .match .keys13) (c .before .before .put13 .ensures))
-    (λ c. no-entry kindEnds _ _ (c .match .rest .0 .0 .0 .0 .0 .0 .0 .0 .0 .0 .0 .0 .1, (c .match .rest .0 .0 .0 .0 .0 .0 .0 .0 .0 .0 .0 .1, (c .match .rest .0 .0 .0 .0 .0 .0 .0 .0 .0 .0 .1, (c .match .rest .0 .0 .0 .0 .0 .0 .0 .0 .0 .1, (c .match .rest .0 .0 .0 .0 .0 .0 .0 .0 .1, (c .match .rest .0 .0 .0 .0 .0 .0 .0 .1, (c .match .rest .0 .0 .0 .0 .0 .0 .1, (c .match .rest .0 .0 .0 .0 .0 .1, (c .match .rest .0 .0 .0 .0 .1, (c .match .rest .0 .0 .0 .1, (c .match .rest .0 .0 .1, (c .match .rest .0 .1, (c .match .rest .1, tt)))))))))))))))
+    (λ c. no-entry kindEnds _ _ (c .match .rest)))

@@ -23,4 +23,6 @@ put-lead-spec =
     (λ c. search needs)
     (λ c κs. search needs)
     (λ c. search needs)
-    (λ c. rw (sym (c .before .before .before .before .before .before .before .before .before .before .is-bracketed .ensures) ∙ c .before .before .before .before .before .before .before .before .before .if1 .left, sym (c .before .before .before .before .before .before .before .before .is-tokenless .ensures) ∙ c .before .before .before .before .before .before .before .if2 .left, sym (c .before .before .before .before .before .before .is-line .ensures) ∙ c .before .before .before .before .before .if3 .left) (c .before .before .put2 .ensures)))
+    (λ c. let c5 = c .before .before .before .before .before in
+    let c8 = c5 .before .before .before in
+    rw (sym (c8 .before .before .is-bracketed .ensures) ∙ c8 .before .if1 .left, sym (c8 .is-tokenless .ensures) ∙ c5 .before .before .if2 .left, sym (c5 .before .is-line .ensures) ∙ c5 .if3 .left) (c .before .before .put2 .ensures)))

@@ -19,6 +19,8 @@ put-link-spec =
     (λ c. search needs)
     (λ c. search needs)
     (λ c κs. c .before .before .before .before .before .before .before .before .before .before .pre)
-    (λ c. omega (arith, bounded (c .before .before .before .before .before .before .before .put-between .ensures) (between-small _ _ _), bounded (c .before .before .put-source .ensures) (source-small _ _), row-small (c .before .before .before .before .before .before .before .before .before .before .before .before .before .pre .0) (c .before .before .before .before .before .before .before .before .before .before .before .before .before .args .parent)))
+    (λ c. let c7 = c .before .before .before .before .before .before .before in
+    let c13 = c7 .before .before .before .before .before .before in
+    omega (arith, bounded (c7 .put-between .ensures) (between-small _ _ _), bounded (c .before .before .put-source .ensures) (source-small _ _), row-small (c13 .pre .0) (c13 .args .parent)))
     (λ c. search needs)
     (λ c. then (rw (c .before .before .before .before .before .before .before .before .before .word .ensures) at (c .before .before .before .before .before .before .before .put-between .ensures)) (c .before .before .before .before .upto .ensures) (c .before .before .put-source .ensures)))

@@ -26,4 +26,4 @@ put-list-open-spec =
     (λ c. rw (c .before .before .before .before .before .match .keys3) (c .before .before .put3 .ensures))
     (λ c. search needs)
     (λ c. rw (c .before .before .before .before .before .match .keys4) (c .before .before .put4 .ensures))
-    (λ c. no-entry listOpens _ _ (c .match .rest .0 .0 .0 .1, (c .match .rest .0 .0 .1, (c .match .rest .0 .1, (c .match .rest .1, tt))))))
+    (λ c. no-entry listOpens _ _ (c .match .rest)))

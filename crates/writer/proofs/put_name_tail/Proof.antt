@@ -14,4 +14,4 @@ put-name-tail-spec =
     (λ c κs. search needs)
     (λ c. search needs)
     (λ c. rw (c .before .before .before .before .before .match .keys1) (c .before .before .put .ensures))
-    (λ c. no-entry nameTails _ _ (c .match .rest .1, tt)))
+    (λ c. no-entry nameTails _ _ (c .match .rest)))

@@ -22,6 +22,8 @@ put-separator-spec =
     (λ c. search needs)
     (λ c. search needs)
     (λ c κs. search needs)
-    (λ c. omega (arith, c .before .before .before .before .before .before .before .put-shut .ensures .counts, c .before .before .put-open .ensures .counts, shuts-small (c .before .before .before .before .before .before .before .before .before .before .before .args .left), opens-small (c .before .before .before .before .before .before .before .before .before .before .before .args .parent) (c .before .before .before .before .before .before .before .before .before .before .before .args .child)))
+    (λ c. let c7 = c .before .before .before .before .before .before .before in
+    let c11 = c7 .before .before .before .before in
+    omega (arith, c7 .put-shut .ensures .counts, c .before .before .put-open .ensures .counts, shuts-small (c11 .args .left), opens-small (c11 .args .parent) (c11 .args .child)))
     (λ c. search needs)
     (λ c. rw (ne-eqb _ _ (c .before .before .before .before .before .before .before .before .before .if1 .left)) (then (c .before .before .before .before .before .before .before .put-shut .ensures) (c .before .before .before .before .upto .ensures) (c .before .before .put-open .ensures))))

@@ -22,4 +22,4 @@ put-shut-spec =
     (λ c. rw (c .before .before .before .before .before .match .keys2) (c .before .before .put2 .ensures))
     (λ c. search needs)
     (λ c. rw (c .before .before .before .before .before .match .keys3) (c .before .before .put3 .ensures))
-    (λ c. no-entry listShuts _ _ (c .match .rest .0 .0 .1, (c .match .rest .0 .1, (c .match .rest .1, tt)))))
+    (λ c. no-entry listShuts _ _ (c .match .rest)))

@@ -21,13 +21,22 @@ put-source-spec =
     (λ c. search needs)
     (λ c. search needs)
     (λ c κs. c .before .before .before .before .before .before .before .before .before .before .before .pre)
-    (λ c. omega (arith, c .before .before .before .before .before .before .before .put .ensures .counts, c .before .before .put-text .ensures .counts, row-small (c .before .before .before .before .before .before .before .before .before .before .before .before .before .before .pre .0) (c .before .before .before .before .before .before .before .before .before .before .before .before .before .before .args .parent)))
+    (λ c. let c7 = c .before .before .before .before .before .before .before in
+    let c14 = c7 .before .before .before .before .before .before .before in
+    omega (arith, c7 .put .ensures .counts, c .before .before .put-text .ensures .counts, row-small (c14 .pre .0) (c14 .args .parent)))
     (λ c κs. search needs)
     (λ c. search needs)
     (λ c. search needs)
     (λ c. search needs)
     (λ c. search needs)
     (λ c κs. search needs)
-    (λ c. omega (arith, c .before .before .before .before .before .before .before .before .before .before .before .before .before .put .ensures .counts, c .before .before .before .before .before .before .before .before .put-text .ensures .counts, row-small (c .before .before .before .before .before .before .before .before .before .before .before .before .before .before .before .before .before .before .before .before .pre .0) (c .before .before .before .before .before .before .before .before .before .before .before .before .before .before .before .before .before .before .before .before .args .parent), c .before .before .put2 .ensures .counts))
+    (λ c. let c8 = c .before .before .before .before .before .before .before .before in
+    let c13 = c8 .before .before .before .before .before in
+    let c20 = c13 .before .before .before .before .before .before .before in
+    omega (arith, c13 .put .ensures .counts, c8 .put-text .ensures .counts, row-small (c20 .pre .0) (c20 .args .parent), c .before .before .put2 .ensures .counts))
     (λ c. search needs)
-    (λ c. rw (c .before .before .before .before .before .before .before .before .before .before .before .before .before .before .before .before .if1 .left) (then (then (c .before .before .before .before .before .before .before .before .before .before .before .before .before .put .ensures) (c .before .before .before .before .before .before .before .before .before .before .upto .ensures) (c .before .before .before .before .before .before .before .before .put-text .ensures)) (c .before .before .before .before .before .upto2 .ensures) (c .before .before .put2 .ensures))))
+    (λ c. let c5 = c .before .before .before .before .before in
+    let c8 = c5 .before .before .before in
+    let c13 = c8 .before .before .before .before .before in
+    let c16 = c13 .before .before .before in
+    rw (c16 .if1 .left) (then (then (c13 .put .ensures) (c8 .before .before .upto .ensures) (c8 .put-text .ensures)) (c5 .upto2 .ensures) (c .before .before .put2 .ensures))))

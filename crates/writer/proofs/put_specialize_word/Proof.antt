@@ -18,4 +18,4 @@ put-specialize-word-spec =
     (λ c. rw (c .before .before .before .before .before .match .keys1) (c .before .before .put .ensures))
     (λ c. search needs)
     (λ c. rw (c .before .before .before .before .before .match .keys2) (c .before .before .put2 .ensures))
-    (λ c. no-entry specializeWords _ _ (c .match .rest .0 .1, (c .match .rest .1, tt))))
+    (λ c. no-entry specializeWords _ _ (c .match .rest)))

@@ -36,4 +36,7 @@ put-spelled-spec =
     (λ c. rw (← c .before .word .ensures, c .match .keys9) (wrote-none _))
     (λ c. rw (← c .before .word .ensures, c .match .keys10) (wrote-none _))
     (λ c. search needs)
-    (λ c. rw (← c .before .before .before .before .before .word .ensures) (simp (ne-eqb _ _ (c .before .before .before .before .match .rest .0 .0 .0 .0 .0 .0 .0 .0 .0 .1), ne-eqb _ _ (c .before .before .before .before .match .rest .0 .0 .0 .0 .0 .0 .0 .0 .1), ne-eqb _ _ (c .before .before .before .before .match .rest .0 .0 .0 .0 .0 .0 .0 .1), ne-eqb _ _ (c .before .before .before .before .match .rest .0 .0 .0 .0 .0 .0 .1), ne-eqb _ _ (c .before .before .before .before .match .rest .0 .0 .0 .0 .0 .1), ne-eqb _ _ (c .before .before .before .before .match .rest .0 .0 .0 .0 .1), ne-eqb _ _ (c .before .before .before .before .match .rest .0 .0 .0 .1), ne-eqb _ _ (c .before .before .before .before .match .rest .0 .0 .1), ne-eqb _ _ (c .before .before .before .before .match .rest .0 .1), ne-eqb _ _ (c .before .before .before .before .match .rest .1)) (c .before .before .put-text .ensures))))
+    (λ c. let c4 = c .before .before .before .before in
+    let r = c4 .match .rest in
+    let r5 = r .0 .0 .0 .0 .0 in
+    rw (← c4 .before .word .ensures) (simp (ne-eqb _ _ (r5 .0 .0 .0 .0 .1), ne-eqb _ _ (r5 .0 .0 .0 .1), ne-eqb _ _ (r5 .0 .0 .1), ne-eqb _ _ (r5 .0 .1), ne-eqb _ _ (r5 .1), ne-eqb _ _ (r .0 .0 .0 .0 .1), ne-eqb _ _ (r .0 .0 .0 .1), ne-eqb _ _ (r .0 .0 .1), ne-eqb _ _ (r .0 .1), ne-eqb _ _ (r .1)) (c .before .before .put-text .ensures))))

@@ -57,7 +57,11 @@ spells-requires-5 c κs = search needs
 returns-5 : tie.Need-returns-5
 unfolding classNamed
 returns-5 c =
-    rw (sym (c .before .before .before .before .before .before .before .before .before .before .before .before .before .spells .ensures) ∙ (c .before .before .before .before .before .before .before .before .before .before .before .before .if1 .left), sym (c .before .before .before .before .before .before .before .before .before .before .spells2 .ensures) ∙ (c .before .before .before .before .before .before .before .before .before .if2 .left), sym (c .before .before .before .before .before .before .before .spells3 .ensures) ∙ (c .before .before .before .before .before .before .if3 .left), sym (c .before .before .before .before .spells4 .ensures) ∙ (c .before .before .before .if4 .left), sym (c .before .spells5 .ensures) ∙ (c .if5 .taken))
+    let c3 = c .before .before .before in
+    let c6 = c3 .before .before .before in
+    let c9 = c6 .before .before .before in
+    let c12 = c9 .before .before .before in
+    rw (sym (c12 .before .spells .ensures) ∙ (c12 .if1 .left), sym (c9 .before .spells2 .ensures) ∙ (c9 .if2 .left), sym (c6 .before .spells3 .ensures) ∙ (c6 .if3 .left), sym (c3 .before .spells4 .ensures) ∙ (c3 .if4 .left), sym (c .before .spells5 .ensures) ∙ (c .if5 .taken))
 
 slice-aggregate-spells-6 : tie.Need-slice-aggregate-spells-6
 slice-aggregate-spells-6 c = search needs
@@ -68,12 +72,22 @@ spells-requires-6 c κs = search needs
 returns-6 : tie.Need-returns-6
 unfolding classNamed
 returns-6 c =
-    rw (sym (c .before .before .before .before .before .before .before .before .before .before .before .before .before .before .before .before .spells .ensures) ∙ (c .before .before .before .before .before .before .before .before .before .before .before .before .before .before .before .if1 .left), sym (c .before .before .before .before .before .before .before .before .before .before .before .before .before .spells2 .ensures) ∙ (c .before .before .before .before .before .before .before .before .before .before .before .before .if2 .left), sym (c .before .before .before .before .before .before .before .before .before .before .spells3 .ensures) ∙ (c .before .before .before .before .before .before .before .before .before .if3 .left), sym (c .before .before .before .before .before .before .before .spells4 .ensures) ∙ (c .before .before .before .before .before .before .if4 .left), sym (c .before .before .before .before .spells5 .ensures) ∙ (c .before .before .before .if5 .left), sym (c .before .spells6 .ensures) ∙ (c .if6 .taken))
+    let c3 = c .before .before .before in
+    let c6 = c3 .before .before .before in
+    let c9 = c6 .before .before .before in
+    let c12 = c9 .before .before .before in
+    let c15 = c12 .before .before .before in
+    rw (sym (c15 .before .spells .ensures) ∙ (c15 .if1 .left), sym (c12 .before .spells2 .ensures) ∙ (c12 .if2 .left), sym (c9 .before .spells3 .ensures) ∙ (c9 .if3 .left), sym (c6 .before .spells4 .ensures) ∙ (c6 .if4 .left), sym (c3 .before .spells5 .ensures) ∙ (c3 .if5 .left), sym (c .before .spells6 .ensures) ∙ (c .if6 .taken))
 
 returns-7 : tie.Need-returns-7
 unfolding classNamed
 returns-7 c =
-    rw (sym (c .before .before .before .before .before .before .before .before .before .before .before .before .before .before .before .before .spells .ensures) ∙ (c .before .before .before .before .before .before .before .before .before .before .before .before .before .before .before .if1 .left), sym (c .before .before .before .before .before .before .before .before .before .before .before .before .before .spells2 .ensures) ∙ (c .before .before .before .before .before .before .before .before .before .before .before .before .if2 .left), sym (c .before .before .before .before .before .before .before .before .before .before .spells3 .ensures) ∙ (c .before .before .before .before .before .before .before .before .before .if3 .left), sym (c .before .before .before .before .before .before .before .spells4 .ensures) ∙ (c .before .before .before .before .before .before .if4 .left), sym (c .before .before .before .before .spells5 .ensures) ∙ (c .before .before .before .if5 .left), sym (c .before .spells6 .ensures) ∙ (c .if6 .left))
+    let c3 = c .before .before .before in
+    let c6 = c3 .before .before .before in
+    let c9 = c6 .before .before .before in
+    let c12 = c9 .before .before .before in
+    let c15 = c12 .before .before .before in
+    rw (sym (c15 .before .spells .ensures) ∙ (c15 .if1 .left), sym (c12 .before .spells2 .ensures) ∙ (c12 .if2 .left), sym (c9 .before .spells3 .ensures) ∙ (c9 .if3 .left), sym (c6 .before .spells4 .ensures) ∙ (c6 .if4 .left), sym (c3 .before .spells5 .ensures) ∙ (c3 .if5 .left), sym (c .before .spells6 .ensures) ∙ (c .if6 .left))
 
 pub class-name-spec : {M : Type 1} → statement M
 class-name-spec =
