@@ -8,35 +8,27 @@ use Rattle.tokens.proofs.arrive.Lts as lts
 use Rattle.lexer.proofs.next.Reads as next-reads
 use Rattle.tokens.proofs.cause.Reads as cause-reads
 
--- src/lib.rt:45:11
 next-requires : tie.Need-next-requires
 next-requires c κs = search needs
 
--- src/lib.rt:46:22
 enum-known-kind : tie.Need-enum-known-kind
 enum-known-kind c = search needs
 
--- src/lib.rt:47:20
 enum-known-at : tie.Need-enum-known-at
 enum-known-at c = search needs
 
--- src/lib.rt:48:24
 enum-known-c : tie.Need-enum-known-c
 enum-known-c c = search needs
 
--- src/lib.rt:48:51
 cause-requires : tie.Need-cause-requires
 cause-requires c κs = search needs
 
--- src/lib.rt:42:1
 returns : tie.Need-returns
 returns c = arrived-token _ _ _ (c .before .before .before .next .ensures) (c .before .kind .given .1)
 
--- src/lib.rt:42:1
 returns-2 : tie.Need-returns-2
 returns-2 c = arrived-end _ _ _ (c .before .before .before .next .ensures) (c .before .at .given .1)
 
--- src/lib.rt:42:1
 returns-3 : tie.Need-returns-3
 returns-3 c = arrived-refused _ _ _ (c .before .before .before .before .next .ensures) (c .cause .result) (c .before .before .c .given .1) (c .cause .ensures)
 

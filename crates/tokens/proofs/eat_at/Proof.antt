@@ -9,19 +9,15 @@ use Rattle.tokens.proofs.at.Reads as at-reads
 use Rattle.tokens.proofs.eat_if.Reads as eat-if-reads
 use Rattle.tokens.proofs.says.Reads as says-reads
 
--- src/lib.rt:200:40
 at-requires : tie.Need-at-requires
 at-requires c κs = search needs
 
--- src/lib.rt:200:27
 says-requires : tie.Need-says-requires
 says-requires c κs = rw (c .at .ensures) (c .before .before .before .pre)
 
--- src/lib.rt:200:5
 eat-if-requires : tie.Need-eat-if-requires
 eat-if-requires c κs = search needs
 
--- src/lib.rt:196:1
 returns : tie.Need-returns
 returns c = eat-at _ _ (rw (c .before .before .at .ensures) at (c .before .says .ensures)) (c .eat-if .ensures)
 

@@ -9,19 +9,15 @@ use Rattle.tokens.proofs.eat_if.Reads as eat-if-reads
 use Rattle.tokens.proofs.name.Reads as name-reads
 use Rattle.tokens.proofs.says.Reads as says-reads
 
--- src/lib.rt:192:40
 name-requires : tie.Need-name-requires
 name-requires c κs = search needs
 
--- src/lib.rt:192:27
 says-requires : tie.Need-says-requires
 says-requires c κs = rw (c .name .ensures) (c .before .before .before .pre)
 
--- src/lib.rt:192:5
 eat-if-requires : tie.Need-eat-if-requires
 eat-if-requires c κs = search needs
 
--- src/lib.rt:188:1
 returns : tie.Need-returns
 returns c = eat-name _ _ (rw (c .before .before .name .ensures) at (c .before .says .ensures)) (c .eat-if .ensures)
 

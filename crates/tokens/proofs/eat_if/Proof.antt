@@ -7,27 +7,21 @@ use Rattle.tokens.proofs.eat_if.Reads as reads
 use Rattle.tokens.proofs.eat_if.Lts as lts
 use Rattle.tokens.proofs.next.Reads as next-reads
 
--- src/lib.rt:104:9
 returns : tie.Need-returns
 returns c = eat-no _ _ (c .if1 .taken)
 
--- src/lib.rt:106:11
 next-requires : tie.Need-next-requires
 next-requires c κs = search needs
 
--- src/lib.rt:107:21
 enum-known-t : tie.Need-enum-known-t
 enum-known-t c = search needs
 
--- src/lib.rt:108:26
 enum-known-cause : tie.Need-enum-known-cause
 enum-known-cause c = search needs
 
--- src/lib.rt:100:1
 returns-2 : tie.Need-returns-2
 returns-2 c = eat-yes _ _ (c .before .before .before .before .if1 .left) _ (c .before .before .before .next .ensures) (c .before .t .given .1)
 
--- src/lib.rt:100:1
 returns-3 : tie.Need-returns-3
 returns-3 c = eat-refused _ _ (c .before .before .before .before .if1 .left) _ (c .before .before .before .next .ensures) (c .before .cause .given .1)
 

@@ -8,15 +8,12 @@ use Rattle.tokens.proofs.eat_punctuation.Lts as lts
 use Rattle.tokens.proofs.eat_if.Reads as eat-if-reads
 use Rattle.tokens.proofs.mark.Reads as mark-reads
 
--- src/lib.rt:116:27
 mark-requires : tie.Need-mark-requires
 mark-requires c κs = search needs
 
--- src/lib.rt:116:5
 eat-if-requires : tie.Need-eat-if-requires
 eat-if-requires c κs = search needs
 
--- src/lib.rt:113:1
 returns : tie.Need-returns
 returns c = eat-mark _ _ (c .before .mark .ensures) (c .eat-if .ensures)
 

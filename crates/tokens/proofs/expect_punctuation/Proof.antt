@@ -8,35 +8,27 @@ use Rattle.tokens.proofs.expect_punctuation.Lts as lts
 use Rattle.tokens.proofs.eat_punctuation.Reads as eat-punctuation-reads
 use Rattle.tokens.proofs.start.Reads as start-reads
 
--- src/lib.rt:110:11
 eat-punctuation-requires : tie.Need-eat-punctuation-requires
 eat-punctuation-requires c κs = search needs
 
--- src/lib.rt:111:20
 enum-known-t : tie.Need-enum-known-t
 enum-known-t c = search needs
 
--- src/lib.rt:112:39
 enum-told : tie.Need-enum-told
 enum-told c = search needs
 
--- src/lib.rt:112:63
 start-requires : tie.Need-start-requires
 start-requires c κs = search needs
 
--- src/lib.rt:113:24
 enum-known-cause : tie.Need-enum-known-cause
 enum-known-cause c = search needs
 
--- src/lib.rt:107:1
 returns : tie.Need-returns
 returns c = expect-yes _ _ _ _ (c .before .before .before .eat-punctuation .ensures) (c .before .t .given .1)
 
--- src/lib.rt:107:1
 returns-2 : tie.Need-returns-2
 returns-2 c = expect-no _ _ _ _ (c .before .before .before .eat-punctuation .ensures) (c .before .enum-told .given .1) (c .start .ensures)
 
--- src/lib.rt:107:1
 returns-3 : tie.Need-returns-3
 returns-3 c = expect-refused _ _ _ _ (c .before .before .before .eat-punctuation .ensures) (c .before .cause .given .1)
 

@@ -8,15 +8,12 @@ use Rattle.tokens.proofs.expect_string.Lts as lts
 use Rattle.tokens.proofs.string.Reads as string-reads
 use Rattle.tokens.proofs.take.Reads as take-reads
 
--- src/lib.rt:256:25
 string-requires : tie.Need-string-requires
 string-requires c κs = search needs
 
--- src/lib.rt:256:5
 take-requires : tie.Need-take-requires
 take-requires c κs = search needs
 
--- src/lib.rt:253:1
 returns : tie.Need-returns
 returns c = takes-string _ _ (rw (c .before .string .ensures) at (c .take .ensures))
 

@@ -7,23 +7,18 @@ use Rattle.tokens.proofs.next.Reads as reads
 use Rattle.tokens.proofs.next.Lts as lts
 use Rattle.tokens.proofs.arrive.Reads as arrive-reads
 
--- src/lib.rt:40:30
 enum-known-token : tie.Need-enum-known-token
 enum-known-token c = search needs
 
--- src/lib.rt:40:38
 arrive-requires : tie.Need-arrive-requires
 arrive-requires c κs = search needs
 
--- src/lib.rt:41:22
 enum-known-token-2 : tie.Need-enum-known-token-2
 enum-known-token-2 c = search needs
 
--- src/lib.rt:36:1
 returns : tie.Need-returns
 returns c = next-token _ _ _ _ _ (c .arrive .result) (c .before .before .token .given .1) (c .arrive .ensures)
 
--- src/lib.rt:36:1
 returns-2 : tie.Need-returns-2
 returns-2 c = next-end _ _ _ (c .before .token2 .given .1)
 

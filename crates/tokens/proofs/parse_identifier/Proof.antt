@@ -8,15 +8,12 @@ use Rattle.tokens.proofs.parse_identifier.Lts as lts
 use Rattle.tokens.proofs.name.Reads as name-reads
 use Rattle.tokens.proofs.take.Reads as take-reads
 
--- src/lib.rt:249:25
 name-requires : tie.Need-name-requires
 name-requires c κs = search needs
 
--- src/lib.rt:249:5
 take-requires : tie.Need-take-requires
 take-requires c κs = search needs
 
--- src/lib.rt:246:1
 returns : tie.Need-returns
 returns c = identifies _ _ (rw (c .before .name .ensures) at (c .take .ensures))
 

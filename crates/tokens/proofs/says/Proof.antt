@@ -7,35 +7,27 @@ use Rattle.tokens.proofs.says.Reads as reads
 use Rattle.tokens.proofs.says.Lts as lts
 use Rattle.lexer.proofs.words.spells.Reads as spells-reads
 
--- src/lib.rt:175:20
 enum-known-part : tie.Need-enum-known-part
 enum-known-part c = search needs
 
--- src/lib.rt:175:50
 sub-spells : tie.Need-sub-spells
 sub-spells c = part-lies _ (c .before .before .before .before .before .pre) (c .before .part .given .1) .0
 
--- src/lib.rt:175:50
 part-spells-start : tie.Need-part-spells-start
 part-spells-start c = part-lies _ (c .before .before .before .before .before .pre) (c .before .part .given .1) .0
 
--- src/lib.rt:175:50
 part-spells-end : tie.Need-part-spells-end
 part-spells-end c = part-lies _ (c .before .before .before .before .before .pre) (c .before .part .given .1) .1
 
--- src/lib.rt:175:29
 spells-requires : tie.Need-spells-requires
 spells-requires c κs = search needs
 
--- src/lib.rt:176:26
 enum-told : tie.Need-enum-told
 enum-told c = search needs
 
--- src/lib.rt:170:1
 returns : tie.Need-returns
 returns c = says-part _ _ (c .before .before .before .before .before .before .before .pre) (c .before .before .before .part .given .1) (c .spells .ensures)
 
--- src/lib.rt:170:1
 returns-2 : tie.Need-returns-2
 returns-2 c = says-nothing _ _ (c .enum-told .given .1)
 

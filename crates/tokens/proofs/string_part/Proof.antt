@@ -7,43 +7,33 @@ use Rattle.tokens.proofs.string_part.Tie as tie
 use Rattle.tokens.proofs.string_part.Reads as reads
 use Rattle.tokens.proofs.string_part.Lts as lts
 
--- src/lib.rt:214:25
 enum-known-kind : tie.Need-enum-known-kind
 enum-known-kind c = search needs
 
--- src/lib.rt:215:27
 enum-told : tie.Need-enum-told
 enum-told c = search needs
 
--- src/lib.rt:216:31
 enum-told-2 : tie.Need-enum-told-2
 enum-told-2 c = search needs
 
--- src/lib.rt:217:33
 enum-told-3 : tie.Need-enum-told-3
 enum-told-3 c = search needs
 
--- src/lib.rt:218:35
 enum-told-4 : tie.Need-enum-told-4
 enum-told-4 c = search needs
 
--- src/lib.rt:210:1
 returns : tie.Need-returns
 returns c = sym (ap stringPart (c .before .kind .given .1))
 
--- src/lib.rt:210:1
 returns-2 : tie.Need-returns-2
 returns-2 c = search needs
 
--- src/lib.rt:210:1
 returns-3 : tie.Need-returns-3
 returns-3 c = search needs
 
--- src/lib.rt:210:1
 returns-4 : tie.Need-returns-4
 returns-4 c = search needs
 
--- src/lib.rt:210:1
 returns-5 : tie.Need-returns-5
 returns-5 c = search needs
 

@@ -8,39 +8,30 @@ use Rattle.tokens.proofs.take.Lts as lts
 use Rattle.tokens.proofs.next.Reads as next-reads
 use Rattle.tokens.proofs.start.Reads as start-reads
 
--- src/lib.rt:236:20
 enum-known-part : tie.Need-enum-known-part
 enum-known-part c = search needs
 
--- src/lib.rt:237:31
 enum-told : tie.Need-enum-told
 enum-told c = search needs
 
--- src/lib.rt:237:55
 start-requires : tie.Need-start-requires
 start-requires c κs = search needs
 
--- src/lib.rt:237:9
 returns : tie.Need-returns
 returns c = take-nothing _ _ (c .before .enum-told .given .1) (c .start .ensures)
 
--- src/lib.rt:239:11
 next-requires : tie.Need-next-requires
 next-requires c κs = search needs
 
--- src/lib.rt:240:21
 enum-known-t : tie.Need-enum-known-t
 enum-known-t c = search needs
 
--- src/lib.rt:241:26
 enum-known-cause : tie.Need-enum-known-cause
 enum-known-cause c = search needs
 
--- src/lib.rt:233:1
 returns-2 : tie.Need-returns-2
 returns-2 c = take-got _ _ (c .before .before .before .before .before .part .given .1) _ (c .before .before .before .next .ensures) (c .before .t .given .1)
 
--- src/lib.rt:233:1
 returns-3 : tie.Need-returns-3
 returns-3 c = take-refused _ _ (c .before .before .before .before .before .part .given .1) _ (c .before .before .before .next .ensures) (c .before .cause .given .1)
 

@@ -25,10 +25,15 @@ place-requires : tie.Need-place-requires
 place-requires c κs = search needs
 
 returns : tie.Need-returns
-returns c = item-nameless _ (taken-not _ _ _ (c .before .before .before .before .parse-identifier .ensures .takes) (taken-told (c .before .before .enum-told .given .1) (c .before .cause .ensures) (c .place .ensures)))
+returns c =
+    let c4 = c .before .before .before .before in
+    item-nameless _ (taken-not _ _ _ (c4 .parse-identifier .ensures .takes) (taken-told (c .before .before .enum-told .given .1) (c .before .cause .ensures) (c .place .ensures)))
 
 parse-prec-kind-requires : tie.Need-parse-prec-kind-requires
-parse-prec-kind-requires c κs = (name-got _ _ (c .before .before .before .before .before .before .before .pre .lies) (c .before .taken .given .1) (c .before .before .before .parse-identifier .ensures)) .1 .onward .lies
+parse-prec-kind-requires c κs =
+    let c3 = c .before .before .before in
+    let c7 = c3 .before .before .before .before in
+    (name-got _ _ (c7 .pre .lies) (c .before .taken .given .1) (c3 .parse-identifier .ensures)) .1 .onward .lies
 
 enum-known-ranked : tie.Need-enum-known-ranked
 enum-known-ranked c = search needs
@@ -43,16 +48,32 @@ place-requires-2 : tie.Need-place-requires-2
 place-requires-2 c κs = search needs
 
 returns-2 : tie.Need-returns-2
-returns-2 c = item-kindless _ (taken-at _ _ _ (c .before .before .before .before .before .before .before .before .parse-identifier .ensures .takes) (c .before .before .before .before .before .before .taken .given .1)) (prec-taken-not _ _ (c .before .before .before .before .parse-prec-kind .result) (c .before .before .before .before .parse-prec-kind .ensures) (prec-told (c .before .before .enum-told2 .given .1) (c .before .cause2 .ensures) (c .place2 .ensures)))
+returns-2 c =
+    let c4 = c .before .before .before .before in
+    let c6 = c4 .before .before in
+    let c8 = c6 .before .before in
+    item-kindless _ (taken-at _ _ _ (c8 .parse-identifier .ensures .takes) (c6 .taken .given .1)) (prec-taken-not _ _ (c4 .parse-prec-kind .result) (c4 .parse-prec-kind .ensures) (prec-told (c .before .before .enum-told2 .given .1) (c .before .cause2 .ensures) (c .place2 .ensures)))
 
 sub-put-named : tie.Need-sub-put-named
-sub-put-named c = (name-got _ _ (c .before .before .before .before .before .before .before .before .before .before .before .pre .lies) (c .before .before .before .before .before .taken .given .1) (c .before .before .before .before .before .before .before .parse-identifier .ensures)) .0 .part .forth
+sub-put-named c =
+    let c5 = c .before .before .before .before .before in
+    let c7 = c5 .before .before in
+    let c11 = c7 .before .before .before .before in
+    (name-got _ _ (c11 .pre .lies) (c5 .taken .given .1) (c7 .parse-identifier .ensures)) .0 .part .forth
 
 part-put-named-start : tie.Need-part-put-named-start
-part-put-named-start c = (name-got _ _ (c .before .before .before .before .before .before .before .before .before .before .before .pre .lies) (c .before .before .before .before .before .taken .given .1) (c .before .before .before .before .before .before .before .parse-identifier .ensures)) .0 .part .forth
+part-put-named-start c =
+    let c5 = c .before .before .before .before .before in
+    let c7 = c5 .before .before in
+    let c11 = c7 .before .before .before .before in
+    (name-got _ _ (c11 .pre .lies) (c5 .taken .given .1) (c7 .parse-identifier .ensures)) .0 .part .forth
 
 part-put-named-end : tie.Need-part-put-named-end
-part-put-named-end c = (name-got _ _ (c .before .before .before .before .before .before .before .before .before .before .before .pre .lies) (c .before .before .before .before .before .taken .given .1) (c .before .before .before .before .before .before .before .parse-identifier .ensures)) .0 .part .inside
+part-put-named-end c =
+    let c5 = c .before .before .before .before .before in
+    let c7 = c5 .before .before in
+    let c11 = c7 .before .before .before .before in
+    (name-got _ _ (c11 .pre .lies) (c5 .taken .given .1) (c7 .parse-identifier .ensures)) .0 .part .inside
 
 start-requires : tie.Need-start-requires
 start-requires c κs = search needs
@@ -61,7 +82,12 @@ prec-value-requires : tie.Need-prec-value-requires
 prec-value-requires c κs = search needs
 
 put-named-requires : tie.Need-put-named-requires
-put-named-requires c κs = put-asks (c .before .before .before .before .before .before .before .before .before .before .before .before .before .before .before .before .pre) (c .before .before .before .before .before .before .before .before .before .before .before .before .before .before .before .before .pre) (c .before .before .before .start .ensures) (omega arith) (part-short _ ((name-got _ _ (c .before .before .before .before .before .before .before .before .before .before .before .before .before .before .before .before .pre .lies) (c .before .before .before .before .before .before .before .before .before .before .taken .given .1) (c .before .before .before .before .before .before .before .before .before .before .before .before .parse-identifier .ensures)) .0 .part))
+put-named-requires c κs =
+    let c3 = c .before .before .before in
+    let c10 = c3 .before .before .before .before .before .before .before in
+    let c12 = c10 .before .before in
+    let c16 = c12 .before .before .before .before in
+    put-asks (c16 .pre) (c16 .pre) (c3 .start .ensures) (omega arith) (part-short _ ((name-got _ _ (c16 .pre .lies) (c10 .taken .given .1) (c12 .parse-identifier .ensures)) .0 .part))
 
 same-length : tie.Need-same-length
 same-length c = search needs
@@ -70,7 +96,16 @@ same-length-2 : tie.Need-same-length-2
 same-length-2 c = search needs
 
 returns-3 : tie.Need-returns-3
-returns-3 c = item-given _ _ (c .before .before .before .before .before .before .before .before .before .before .before .before .before .before .before .before .before .before .before .before .before .pre .lies) _ (c .before .before .before .before .before .before .before .before .before .before .before .before .before .before .before .before .before .parse-identifier .ensures) (c .before .before .before .before .before .before .before .before .before .before .before .before .before .before .before .taken .given .1) (prec-taken _ _ (c .before .before .before .before .before .before .before .before .before .before .before .before .before .parse-prec-kind .result) (c .before .before .before .before .before .before .before .before .before .before .before .before .before .parse-prec-kind .ensures) (c .before .before .before .before .before .before .before .before .before .before .before .ranked .given .1)) (c .before .before .before .before .before .before .before .before .start .ensures) (c .before .before .before .before .before .before .before .prec-value .ensures) (c .before .before .before .before .put-named .ensures)
+returns-3 c =
+    let c4 = c .before .before .before .before in
+    let c7 = c4 .before .before .before in
+    let c8 = c7 .before in
+    let c11 = c8 .before .before .before in
+    let c13 = c11 .before .before in
+    let c15 = c13 .before .before in
+    let c17 = c15 .before .before in
+    let c21 = c17 .before .before .before .before in
+    item-given _ _ (c21 .pre .lies) _ (c17 .parse-identifier .ensures) (c15 .taken .given .1) (prec-taken _ _ (c13 .parse-prec-kind .result) (c13 .parse-prec-kind .ensures) (c11 .ranked .given .1)) (c8 .start .ensures) (c7 .prec-value .ensures) (c4 .put-named .ensures)
 
 pub parse-prec-item-spec : {M : Type 1} → statement M
 parse-prec-item-spec =

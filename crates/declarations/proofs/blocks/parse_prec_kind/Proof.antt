@@ -43,7 +43,9 @@ slice-aggregate-eat-at-3 : tie.Need-slice-aggregate-eat-at-3
 slice-aggregate-eat-at-3 c = search needs
 
 eat-at-requires-3 : tie.Need-eat-at-requires-3
-eat-at-requires-3 c κs = at-whole _ (c .before .before .before .before .before .before .before .before .before .before .args .token) 0 (c .before .before .before .before .before .before .before .before .before .before .pre)
+eat-at-requires-3 c κs =
+    let c10 = c .before .before .before .before .before .before .before .before .before .before in
+    at-whole _ (c10 .args .token) 0 (c10 .pre)
 
 enum-known-cause-3 : tie.Need-enum-known-cause-3
 enum-known-cause-3 c = search needs
@@ -60,27 +62,60 @@ returns c = left-not _ (word-not _ "left" (c .before .before .before .before .be
 
 returns-2 : tie.Need-returns-2
 unfolding every
-returns-2 c = let y = word-yes _ "left" (c .before .before .before .before .before .before .args .token) refl _ (c .before .before .before .eat-at .ensures) (c .before .before .before .before .before .before .pre) (c .before .u .given .1) in prec-got (left-yes _ (y .0)) (y .1)
+returns-2 c =
+    let c3 = c .before .before .before in
+    let c6 = c3 .before .before .before in
+    let y = word-yes _ "left" (c6 .args .token) refl _ (c3 .eat-at .ensures) (c6 .pre) (c .before .u .given .1) in prec-got (left-yes _ (y .0)) (y .1)
 
 returns-3 : tie.Need-returns-3
 unfolding every
-returns-3 c = right-not _ (word-no _ "left" (c .before .before .before .before .before .before .before .before .before .before .args .token) refl _ (c .before .before .before .before .before .before .before .eat-at .ensures) (c .before .before .before .before .before .enum-told .given .1)) (word-not _ "right" (c .before .before .before .before .before .before .before .before .before .before .args .token) refl _ (c .before .before .before .eat-at2 .ensures) (c .before .cause2 .given .1))
+returns-3 c =
+    let c3 = c .before .before .before in
+    let c5 = c3 .before .before in
+    let c7 = c5 .before .before in
+    let c10 = c7 .before .before .before in
+    right-not _ (word-no _ "left" (c10 .args .token) refl _ (c7 .eat-at .ensures) (c5 .enum-told .given .1)) (word-not _ "right" (c10 .args .token) refl _ (c3 .eat-at2 .ensures) (c .before .cause2 .given .1))
 
 returns-4 : tie.Need-returns-4
 unfolding every
-returns-4 c = let y = word-yes _ "right" (c .before .before .before .before .before .before .before .before .before .before .args .token) refl _ (c .before .before .before .eat-at2 .ensures) (c .before .before .before .before .before .before .before .before .before .before .pre) (c .before .u2 .given .1) in prec-got (right-yes _ (word-no _ "left" (c .before .before .before .before .before .before .before .before .before .before .args .token) refl _ (c .before .before .before .before .before .before .before .eat-at .ensures) (c .before .before .before .before .before .enum-told .given .1)) (y .0)) (y .1)
+returns-4 c =
+    let c3 = c .before .before .before in
+    let c5 = c3 .before .before in
+    let c7 = c5 .before .before in
+    let c10 = c7 .before .before .before in
+    let y = word-yes _ "right" (c10 .args .token) refl _ (c3 .eat-at2 .ensures) (c10 .pre) (c .before .u2 .given .1) in prec-got (right-yes _ (word-no _ "left" (c10 .args .token) refl _ (c7 .eat-at .ensures) (c5 .enum-told .given .1)) (y .0)) (y .1)
 
 returns-5 : tie.Need-returns-5
 unfolding every
-returns-5 c = cut-not _ (word-no _ "left" (c .before .before .before .before .before .before .before .before .before .before .before .before .before .before .args .token) refl _ (c .before .before .before .before .before .before .before .before .before .before .before .eat-at .ensures) (c .before .before .before .before .before .before .before .before .before .enum-told .given .1)) (word-no _ "right" (c .before .before .before .before .before .before .before .before .before .before .before .before .before .before .args .token) refl _ (c .before .before .before .before .before .before .before .eat-at2 .ensures) (c .before .before .before .before .before .enum-told2 .given .1)) (word-not _ "cut" (c .before .before .before .before .before .before .before .before .before .before .before .before .before .before .args .token) refl _ (c .before .before .before .eat-at3 .ensures) (c .before .cause3 .given .1))
+returns-5 c =
+    let c3 = c .before .before .before in
+    let c5 = c3 .before .before in
+    let c7 = c5 .before .before in
+    let c9 = c7 .before .before in
+    let c11 = c9 .before .before in
+    let c14 = c11 .before .before .before in
+    cut-not _ (word-no _ "left" (c14 .args .token) refl _ (c11 .eat-at .ensures) (c9 .enum-told .given .1)) (word-no _ "right" (c14 .args .token) refl _ (c7 .eat-at2 .ensures) (c5 .enum-told2 .given .1)) (word-not _ "cut" (c14 .args .token) refl _ (c3 .eat-at3 .ensures) (c .before .cause3 .given .1))
 
 returns-6 : tie.Need-returns-6
 unfolding every
-returns-6 c = let y = word-yes _ "cut" (c .before .before .before .before .before .before .before .before .before .before .before .before .before .before .args .token) refl _ (c .before .before .before .eat-at3 .ensures) (c .before .before .before .before .before .before .before .before .before .before .before .before .before .before .pre) (c .before .u3 .given .1) in prec-got (cut-yes _ (word-no _ "left" (c .before .before .before .before .before .before .before .before .before .before .before .before .before .before .args .token) refl _ (c .before .before .before .before .before .before .before .before .before .before .before .eat-at .ensures) (c .before .before .before .before .before .before .before .before .before .enum-told .given .1)) (word-no _ "right" (c .before .before .before .before .before .before .before .before .before .before .before .before .before .before .args .token) refl _ (c .before .before .before .before .before .before .before .eat-at2 .ensures) (c .before .before .before .before .before .enum-told2 .given .1)) (y .0)) (y .1)
+returns-6 c =
+    let c3 = c .before .before .before in
+    let c5 = c3 .before .before in
+    let c7 = c5 .before .before in
+    let c9 = c7 .before .before in
+    let c11 = c9 .before .before in
+    let c14 = c11 .before .before .before in
+    let y = word-yes _ "cut" (c14 .args .token) refl _ (c3 .eat-at3 .ensures) (c14 .pre) (c .before .u3 .given .1) in prec-got (cut-yes _ (word-no _ "left" (c14 .args .token) refl _ (c11 .eat-at .ensures) (c9 .enum-told .given .1)) (word-no _ "right" (c14 .args .token) refl _ (c7 .eat-at2 .ensures) (c5 .enum-told2 .given .1)) (y .0)) (y .1)
 
 returns-7 : tie.Need-returns-7
 unfolding every
-returns-7 c = prec-got (kind-none _ (word-no _ "left" (c .before .before .before .before .before .before .before .before .before .before .before .before .before .args .token) refl _ (c .before .before .before .before .before .before .before .before .before .before .eat-at .ensures) (c .before .before .before .before .before .before .before .before .enum-told .given .1)) (word-no _ "right" (c .before .before .before .before .before .before .before .before .before .before .before .before .before .args .token) refl _ (c .before .before .before .before .before .before .eat-at2 .ensures) (c .before .before .before .before .enum-told2 .given .1)) (word-no _ "cut" (c .before .before .before .before .before .before .before .before .before .before .before .before .before .args .token) refl _ (c .before .before .eat-at3 .ensures) (c .enum-told3 .given .1))) (onward-here _ (c .before .before .before .before .before .before .before .before .before .before .before .before .before .args .token) (c .before .before .before .before .before .before .before .before .before .before .before .before .before .pre))
+returns-7 c =
+    let c4 = c .before .before .before .before in
+    let c6 = c4 .before .before in
+    let c8 = c6 .before .before in
+    let c10 = c8 .before .before in
+    let c13 = c10 .before .before .before in
+    prec-got (kind-none _ (word-no _ "left" (c13 .args .token) refl _ (c10 .eat-at .ensures) (c8 .enum-told .given .1)) (word-no _ "right" (c13 .args .token) refl _ (c6 .eat-at2 .ensures) (c4 .enum-told2 .given .1)) (word-no _ "cut" (c13 .args .token) refl _ (c .before .before .eat-at3 .ensures) (c .enum-told3 .given .1))) (onward-here _ (c13 .args .token) (c13 .pre))
 
 pub parse-prec-kind-spec : {M : Type 1} → statement M
 parse-prec-kind-spec =

@@ -27,7 +27,10 @@ place-requires : tie.Need-place-requires
 place-requires c κs = search needs
 
 returns : tie.Need-returns
-returns c = next-refused (precedence-block _ (c .before .before .before .before .before .before .before .before .args .token)) _ (c .before .before .before .before .next .ensures) (arrived-told (c .before .before .enum-told .given .1) (c .before .cause .ensures) (c .place .ensures))
+returns c =
+    let c4 = c .before .before .before .before in
+    let c8 = c4 .before .before .before .before in
+    next-refused (precedence-block _ (c8 .args .token)) _ (c4 .next .ensures) (arrived-told (c .before .before .enum-told .given .1) (c .before .cause .ensures) (c .place .ensures))
 
 expect-punctuation-requires : tie.Need-expect-punctuation-requires
 expect-punctuation-requires c κs = search needs
@@ -45,10 +48,21 @@ place-requires-2 : tie.Need-place-requires-2
 place-requires-2 c κs = search needs
 
 returns-2 : tie.Need-returns-2
-returns-2 c = brace-refused (precedence-block _ (c .before .before .before .before .before .before .before .before .before .before .before .before .args .token)) _ (c .before .before .before .before .before .before .before .before .next .ensures) (c .before .before .before .before .before .before .arrived .given .1) _ (c .before .before .before .before .expect-punctuation .ensures) (arrived-told (c .before .before .enum-told2 .given .1) (c .before .cause2 .ensures) (c .place2 .ensures))
+returns-2 c =
+    let c4 = c .before .before .before .before in
+    let c6 = c4 .before .before in
+    let c8 = c6 .before .before in
+    let c12 = c8 .before .before .before .before in
+    brace-refused (precedence-block _ (c12 .args .token)) _ (c8 .next .ensures) (c6 .arrived .given .1) _ (c4 .expect-punctuation .ensures) (arrived-told (c .before .before .enum-told2 .given .1) (c .before .cause2 .ensures) (c .place2 .ensures))
 
 prec-items-list-requires : tie.Need-prec-items-list-requires
-prec-items-list-requires c κs = ready-step (c .before .before .before .before .before .before .before .before .before .before .before .before .before .pre .0) (list-onward (precedence-block _ (c .before .before .before .before .before .before .before .before .before .before .before .before .before .args .token)) _ (c .before .before .before .before .before .before .before .before .before .next .ensures) (c .before .before .before .before .before .before .before .arrived .given .1) _ (c .before .before .before .before .before .expect-punctuation .ensures) (c .before .before .before .opened .given .1) (c .before .before .before .before .before .before .before .before .before .before .before .before .before .pre .1) (c .before .before .before .before .before .before .before .before .before .before .before .before .before .pre .0 .lies))
+prec-items-list-requires c κs =
+    let c3 = c .before .before .before in
+    let c5 = c3 .before .before in
+    let c7 = c5 .before .before in
+    let c9 = c7 .before .before in
+    let c13 = c9 .before .before .before .before in
+    ready-step (c13 .pre .0) (list-onward (precedence-block _ (c13 .args .token)) _ (c9 .next .ensures) (c7 .arrived .given .1) _ (c5 .expect-punctuation .ensures) (c3 .opened .given .1) (c13 .pre .1) (c13 .pre .0 .lies))
 
 enum-known-listed : tie.Need-enum-known-listed
 enum-known-listed c = search needs
@@ -69,13 +83,28 @@ same-length-2 : tie.Need-same-length-2
 same-length-2 c = search needs
 
 returns-3 : tie.Need-returns-3
-returns-3 c = list-halt (precedence-block _ (c .before .before .before .before .before .before .before .before .before .before .before .before .before .before .before .before .before .before .before .before .before .before .args .token)) _ (c .before .before .before .before .before .before .before .before .before .before .before .before .before .before .before .before .before .before .next .ensures) (c .before .before .before .before .before .before .before .before .before .before .before .before .before .before .before .before .arrived .given .1) _ (c .before .before .before .before .before .before .before .before .before .before .before .before .before .before .expect-punctuation .ensures) (c .before .before .before .before .before .before .before .before .before .before .before .before .opened .given .1) (listed-not _ _ _ _ _ _ _ _ (c .before .before .before .before .before .before .before .before .prec-items-list .result) (c .before .before .before .before .before .before .before .before .prec-items-list .ensures) (listed-told (c .before .before .enum-told3 .given .1) (c .before .cause3 .ensures) (c .place3 .ensures)))
+returns-3 c =
+    let c8 = c .before .before .before .before .before .before .before .before in
+    let c12 = c8 .before .before .before .before in
+    let c14 = c12 .before .before in
+    let c16 = c14 .before .before in
+    let c18 = c16 .before .before in
+    let c22 = c18 .before .before .before .before in
+    list-halt (precedence-block _ (c22 .args .token)) _ (c18 .next .ensures) (c16 .arrived .given .1) _ (c14 .expect-punctuation .ensures) (c12 .opened .given .1) (listed-not _ _ _ _ _ _ _ _ (c8 .prec-items-list .result) (c8 .prec-items-list .ensures) (listed-told (c .before .before .enum-told3 .given .1) (c .before .cause3 .ensures) (c .place3 .ensures)))
 
 start-requires : tie.Need-start-requires
 start-requires c κs = search needs
 
 put-plain-requires : tie.Need-put-plain-requires
-put-plain-requires c κs = block-asks (precedence-block _ (c .before .before .before .before .before .before .before .before .before .before .before .before .before .before .before .before .before .before .before .before .before .before .before .args .token)) _ (c .before .before .before .before .before .before .before .before .before .before .before .before .before .before .before .before .before .before .before .next .ensures) (c .before .before .before .before .before .before .before .before .before .before .before .before .before .before .before .before .before .arrived .given .1) _ (c .before .before .before .before .before .before .before .before .before .before .before .before .before .before .before .expect-punctuation .ensures) (c .before .before .before .before .before .before .before .before .before .before .before .before .before .opened .given .1) (c .before .before .before .before .before .before .before .before .before .before .before .before .before .before .before .before .before .before .before .before .before .before .before .pre .0) (c .before .before .before .before .before .before .before .before .before .before .before .before .before .before .before .before .before .before .before .before .before .before .before .pre .1) precItemBranch (listed _ _ _ _ _ _ _ _ (c .before .before .before .before .before .before .before .before .before .prec-items-list .result) (c .before .before .before .before .before .before .before .before .before .prec-items-list .ensures) (c .before .before .before .listed .given .1)) (c .start .ensures)
+put-plain-requires c κs =
+    let c3 = c .before .before .before in
+    let c9 = c3 .before .before .before .before .before .before in
+    let c13 = c9 .before .before .before .before in
+    let c15 = c13 .before .before in
+    let c17 = c15 .before .before in
+    let c19 = c17 .before .before in
+    let c23 = c19 .before .before .before .before in
+    block-asks (precedence-block _ (c23 .args .token)) _ (c19 .next .ensures) (c17 .arrived .given .1) _ (c15 .expect-punctuation .ensures) (c13 .opened .given .1) (c23 .pre .0) (c23 .pre .1) precItemBranch (listed _ _ _ _ _ _ _ _ (c9 .prec-items-list .result) (c9 .prec-items-list .ensures) (c3 .listed .given .1)) (c .start .ensures)
 
 same-length-3 : tie.Need-same-length-3
 same-length-3 c = search needs
@@ -84,7 +113,16 @@ same-length-4 : tie.Need-same-length-4
 same-length-4 c = search needs
 
 returns-4 : tie.Need-returns-4
-returns-4 c = let l = (listed _ _ _ _ _ _ _ _ (c .before .before .before .before .before .before .before .before .before .before .before .before .prec-items-list .result) (c .before .before .before .before .before .before .before .before .before .before .before .before .prec-items-list .ensures) (c .before .before .before .before .before .before .listed .given .1)) in block-given (precedence-block _ (c .before .before .before .before .before .before .before .before .before .before .before .before .before .before .before .before .before .before .before .before .before .before .before .before .before .before .args .token)) _ (c .before .before .before .before .before .before .before .before .before .before .before .before .before .before .before .before .before .before .before .before .before .before .next .ensures) (c .before .before .before .before .before .before .before .before .before .before .before .before .before .before .before .before .before .before .before .before .arrived .given .1) _ (c .before .before .before .before .before .before .before .before .before .before .before .before .before .before .before .before .before .before .expect-punctuation .ensures) (c .before .before .before .before .before .before .before .before .before .before .before .before .before .before .before .before .opened .given .1) (c .before .before .before .before .before .before .before .before .before .before .before .before .before .before .before .before .before .before .before .before .before .before .before .before .before .before .pre .1) (c .before .before .before .before .before .before .before .before .before .before .before .before .before .before .before .before .before .before .before .before .before .before .before .before .before .before .pre .0 .lies) precItemBranch precedenceBranch 20 l (precBy _ (l .items)) (made _ _) (prec-nodes _ (l .items)) (c .before .before .before .start .ensures) (c .before .before .put-plain .ensures)
+returns-4 c =
+    let c3 = c .before .before .before in
+    let c6 = c3 .before .before .before in
+    let c12 = c6 .before .before .before .before .before .before in
+    let c16 = c12 .before .before .before .before in
+    let c18 = c16 .before .before in
+    let c20 = c18 .before .before in
+    let c22 = c20 .before .before in
+    let c26 = c22 .before .before .before .before in
+    let l = (listed _ _ _ _ _ _ _ _ (c12 .prec-items-list .result) (c12 .prec-items-list .ensures) (c6 .listed .given .1)) in block-given (precedence-block _ (c26 .args .token)) _ (c22 .next .ensures) (c20 .arrived .given .1) _ (c18 .expect-punctuation .ensures) (c16 .opened .given .1) (c26 .pre .1) (c26 .pre .0 .lies) precItemBranch precedenceBranch 20 l (precBy _ (l .items)) (made _ _) (prec-nodes _ (l .items)) (c3 .start .ensures) (c .before .before .put-plain .ensures)
 
 pub parse-precedence-spec : {M : Type 1} → statement M
 parse-precedence-spec =

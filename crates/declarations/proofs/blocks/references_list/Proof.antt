@@ -39,7 +39,10 @@ same-length-2 : tie.Need-same-length-2 Inv-loop μ-loop
 same-length-2 c = omega (arith, c .before .before .before .before .loop .inv .lays .stores .same-texts)
 
 returns : tie.Need-returns Inv-loop μ-loop
-returns c = list-closed "}" May (λ _. parseTokenReference badPrecedence) (c .before .before .before .before .loop .inv) _ (c .before .before .before .opening .ensures) (c .before .u .given .1) (omega arith)
+returns c =
+    let c3 = c .before .before .before in
+    let c4 = c3 .before in
+    list-closed "}" May (λ _. parseTokenReference badPrecedence) (c4 .loop .inv) _ (c3 .opening .ensures) (c .before .u .given .1) (omega arith)
 
 enum-known-cause : tie.Need-enum-known-cause Inv-loop μ-loop
 enum-known-cause c = search needs
@@ -57,7 +60,12 @@ enum-known-u-2 : tie.Need-enum-known-u-2 Inv-loop μ-loop
 enum-known-u-2 c = search needs
 
 parse-token-reference-requires : tie.Need-parse-token-reference-requires Inv-loop μ-loop
-parse-token-reference-requires c κs = ready-step (ready-on (c .before .before .before .before .before .before .before .before .before .before .pre) (c .before .before .before .before .before .before .loop .inv .onward) (c .before .before .before .before .before .before .loop .inv .lays)) (item-onward "}" (c .before .before .before .before .before .opening .ensures) (c .before .before .before .u2 .given .1))
+parse-token-reference-requires c κs =
+    let c3 = c .before .before .before in
+    let c5 = c3 .before .before in
+    let c6 = c5 .before in
+    let c10 = c6 .before .before .before .before in
+    ready-step (ready-on (c10 .pre) (c6 .loop .inv .onward) (c6 .loop .inv .lays)) (item-onward "}" (c5 .opening .ensures) (c3 .u2 .given .1))
 
 enum-known-parsed : tie.Need-enum-known-parsed Inv-loop μ-loop
 enum-known-parsed c = search needs
@@ -78,16 +86,34 @@ same-length-6 : tie.Need-same-length-6 Inv-loop μ-loop
 same-length-6 c = omega (arith, c .before .before .before .before .before .before .before .before .before .before .before .before .before .before .before .loop .inv .lays .stores .same-texts)
 
 returns-3 : tie.Need-returns-3 Inv-loop μ-loop
-returns-3 c = item-refused "}" May (λ _. parseTokenReference badPrecedence) (c .before .before .before .before .before .before .before .before .before .before .before .before .before .before .before .loop .inv) _ (c .before .before .before .before .before .before .before .before .before .before .before .before .before .before .opening .ensures) (c .before .before .before .before .before .before .before .before .before .before .before .before .u2 .given .1) _ refl _ _ _ (c .before .before .before .before .before .before .before .before .parse-token-reference .ensures) (parsed-told (c .before .before .enum-told .given .1) (c .before .cause2 .ensures) (c .place .ensures))
+returns-3 c =
+    let c8 = c .before .before .before .before .before .before .before .before in
+    let c12 = c8 .before .before .before .before in
+    let c14 = c12 .before .before in
+    let c15 = c14 .before in
+    item-refused "}" May (λ _. parseTokenReference badPrecedence) (c15 .loop .inv) _ (c14 .opening .ensures) (c12 .u2 .given .1) _ refl _ _ _ (c8 .parse-token-reference .ensures) (parsed-told (c .before .before .enum-told .given .1) (c .before .cause2 .ensures) (c .place .ensures))
 
 add-count : tie.Need-add-count Inv-loop μ-loop
-add-count c = omega (arith, listing-small referenceBranch (c .before .before .before .before .before .before .before .before .before .before .before .before .before .before .loop .inv) (c .before .before .before .before .before .before .before .before .before .before .before .before .before .before .before .before .before .before .pre .small) (omega arith))
+add-count c =
+    let c14 = c .before .before .before .before .before .before .before .before .before .before .before .before .before .before in
+    let c18 = c14 .before .before .before .before in
+    omega (arith, listing-small referenceBranch (c14 .loop .inv) (c18 .pre .small) (omega arith))
 
 loop-less : tie.Need-loop-less Inv-loop μ-loop
-loop-less c = omega (arith, item-more "}" May (λ _. parseTokenReference badPrecedence) (c .before .before .before .before .before .before .before .before .before .before .before .before .before .before .loop .inv) _ (c .before .before .before .before .before .before .before .before .before .before .before .before .before .opening .ensures) (c .before .before .before .before .before .before .before .before .before .before .before .u2 .given .1) _ refl _ _ _ (c .before .before .before .before .before .before .before .parse-token-reference .ensures) (c .before .parsed .given .1) .0 .fewer)
+loop-less c =
+    let c7 = c .before .before .before .before .before .before .before in
+    let c11 = c7 .before .before .before .before in
+    let c13 = c11 .before .before in
+    let c14 = c13 .before in
+    omega (arith, item-more "}" May (λ _. parseTokenReference badPrecedence) (c14 .loop .inv) _ (c13 .opening .ensures) (c11 .u2 .given .1) _ refl _ _ _ (c7 .parse-token-reference .ensures) (c .before .parsed .given .1) .0 .fewer)
 
 loop-again : tie.Need-loop-again Inv-loop μ-loop
-loop-again c = item-more "}" May (λ _. parseTokenReference badPrecedence) (c .before .before .before .before .before .before .before .before .before .before .before .before .before .before .loop .inv) _ (c .before .before .before .before .before .before .before .before .before .before .before .before .before .opening .ensures) (c .before .before .before .before .before .before .before .before .before .before .before .u2 .given .1) _ refl _ _ _ (c .before .before .before .before .before .before .before .parse-token-reference .ensures) (c .before .parsed .given .1) .1
+loop-again c =
+    let c7 = c .before .before .before .before .before .before .before in
+    let c11 = c7 .before .before .before .before in
+    let c13 = c11 .before .before in
+    let c14 = c13 .before in
+    item-more "}" May (λ _. parseTokenReference badPrecedence) (c14 .loop .inv) _ (c13 .opening .ensures) (c11 .u2 .given .1) _ refl _ _ _ (c7 .parse-token-reference .ensures) (c .before .parsed .given .1) .1
 
 pub references-list-spec : {M : Type 1} → statement M
 references-list-spec =

@@ -26,13 +26,21 @@ parse-identifier-requires : tie.Need-parse-identifier-requires
 parse-identifier-requires c κs = search needs
 
 returns : tie.Need-returns
-returns c = as-refused _ _ (c .before .before .before .before .before .before .args .a) (c .before .before .before .before .before .before .args .e) (word-not "as" _ _ _ (c .before .before .before .eat-identifier-value .ensures) as-plain (c .before .cause .given .1))
+returns c =
+    let c3 = c .before .before .before in
+    let c6 = c3 .before .before .before in
+    as-refused _ _ (c6 .args .a) (c6 .args .e) (word-not "as" _ _ _ (c3 .eat-identifier-value .ensures) as-plain (c .before .cause .given .1))
 
 returns-2 : tie.Need-returns-2
-returns-2 c = as-same _ _ _ _ (c .before .before .before .before .before .pre .1) (c .before .before .before .before .before .pre .0) (word-no "as" _ _ _ (c .before .before .eat-identifier-value .ensures) as-plain (c .enum-told .given .1))
+returns-2 c =
+    let c5 = c .before .before .before .before .before in
+    as-same _ _ _ _ (c5 .pre .1) (c5 .pre .0) (word-no "as" _ _ _ (c .before .before .eat-identifier-value .ensures) as-plain (c .enum-told .given .1))
 
 returns-3 : tie.Need-returns-3
-returns-3 c = as-taken _ _ _ _ (c .before .before .before .before .before .before .before .pre .1) _ (word-yes "as" _ _ _ (c .before .before .before .before .eat-identifier-value .ensures) as-plain (c .before .before .u .given .1)) (word-onward "as" _ _ _ (c .before .before .before .before .eat-identifier-value .ensures) as-plain (c .before .before .before .before .before .before .before .pre .0) (c .before .before .u .given .1)) (c .parse-identifier .result) (c .parse-identifier .ensures)
+returns-3 c =
+    let c4 = c .before .before .before .before in
+    let c7 = c4 .before .before .before in
+    as-taken _ _ _ _ (c7 .pre .1) _ (word-yes "as" _ _ _ (c4 .eat-identifier-value .ensures) as-plain (c .before .before .u .given .1)) (word-onward "as" _ _ _ (c4 .eat-identifier-value .ensures) as-plain (c7 .pre .0) (c .before .before .u .given .1)) (c .parse-identifier .result) (c .parse-identifier .ensures)
 
 pub parse-as-spec : {M : Type 1} → statement M
 parse-as-spec =

@@ -34,7 +34,10 @@ returns-2 : tie.Need-returns-2
 returns-2 c = rw (c .start .ensures) (source-no _ _ (word-no "from" _ _ _ (c .before .before .before .eat-identifier-value .ensures) from-plain (c .before .enum-told .given .1)))
 
 returns-3 : tie.Need-returns-3
-returns-3 c = source-taken _ _ _ (word-yes "from" _ _ _ (c .before .before .before .before .eat-identifier-value .ensures) from-plain (c .before .before .u .given .1)) (word-onward "from" _ _ _ (c .before .before .before .before .eat-identifier-value .ensures) from-plain (c .before .before .before .before .before .before .before .pre) (c .before .before .u .given .1)) (c .expect-string .result) (c .expect-string .ensures)
+returns-3 c =
+    let c4 = c .before .before .before .before in
+    let c7 = c4 .before .before .before in
+    source-taken _ _ _ (word-yes "from" _ _ _ (c4 .eat-identifier-value .ensures) from-plain (c .before .before .u .given .1)) (word-onward "from" _ _ _ (c4 .eat-identifier-value .ensures) from-plain (c7 .pre) (c .before .before .u .given .1)) (c .expect-string .result) (c .expect-string .ensures)
 
 pub parse-source-spec : {M : Type 1} → statement M
 parse-source-spec =

@@ -27,10 +27,16 @@ place-requires : tie.Need-place-requires
 place-requires c κs = search needs
 
 returns : tie.Need-returns
-returns c = literal-next _ _ _ (arrived-not _ _ (c .before .before .before .before .next .ensures .0) (arrived-told (c .before .before .enum-told .given .1) (c .before .cause .ensures) (c .place .ensures)))
+returns c =
+    let c4 = c .before .before .before .before in
+    literal-next _ _ _ (arrived-not _ _ (c4 .next .ensures .0) (arrived-told (c .before .before .enum-told .given .1) (c .before .cause .ensures) (c .place .ensures)))
 
 parse-props-requires : tie.Need-parse-props-requires
-parse-props-requires c κs = ready-step (c .before .before .before .before .before .before .before .before .before .pre .0) (literal-on _ _ (c .before .before .before .before .before .before .before .before .before .pre .0) (c .before .before .before .before .before .before .before .before .before .pre .1) _ (c .before .before .before .before .before .next .ensures) (c .before .before .before .arrived .given .1))
+parse-props-requires c κs =
+    let c3 = c .before .before .before in
+    let c5 = c3 .before .before in
+    let c9 = c5 .before .before .before .before in
+    ready-step (c9 .pre .0) (literal-on _ _ (c9 .pre .0) (c9 .pre .1) _ (c5 .next .ensures) (c3 .arrived .given .1))
 
 enum-known-listed : tie.Need-enum-known-listed
 enum-known-listed c = search needs
@@ -51,22 +57,38 @@ same-length-2 : tie.Need-same-length-2
 same-length-2 c = search needs
 
 returns-2 : tie.Need-returns-2
-returns-2 c = literal-props _ _ _ (arrived-at _ _ (c .before .before .before .before .before .before .before .before .before .before .before .before .before .before .next .ensures .0) (c .before .before .before .before .before .before .before .before .before .before .before .before .arrived .given .1)) (listed-not _ _ _ _ _ _ _ _ _ (c .before .before .before .before .before .before .before .before .parse-props .ensures) (listed-told (c .before .before .enum-told2 .given .1) (c .before .cause2 .ensures) (c .place2 .ensures)))
+returns-2 c =
+    let c8 = c .before .before .before .before .before .before .before .before in
+    let c12 = c8 .before .before .before .before in
+    let c14 = c12 .before .before in
+    literal-props _ _ _ (arrived-at _ _ (c14 .next .ensures .0) (c12 .arrived .given .1)) (listed-not _ _ _ _ _ _ _ _ _ (c8 .parse-props .ensures) (listed-told (c .before .before .enum-told2 .given .1) (c .before .cause2 .ensures) (c .place2 .ensures)))
 
 sub-put-string : tie.Need-sub-put-string
-sub-put-string c = string-in (c .before .before .before .before .before .before .before .before .before .before .before .before .before .before .before .before .before .pre .0) (c .before .before .before .before .before .before .before .before .before .before .before .before .before .before .before .before .before .pre .1) .part .forth
+sub-put-string c =
+    let c17 = c .before .before .before .before .before .before .before .before .before .before .before .before .before .before .before .before .before in
+    string-in (c17 .pre .0) (c17 .pre .1) .part .forth
 
 part-put-string-start : tie.Need-part-put-string-start
-part-put-string-start c = string-in (c .before .before .before .before .before .before .before .before .before .before .before .before .before .before .before .before .before .pre .0) (c .before .before .before .before .before .before .before .before .before .before .before .before .before .before .before .before .before .pre .1) .part .forth
+part-put-string-start c =
+    let c17 = c .before .before .before .before .before .before .before .before .before .before .before .before .before .before .before .before .before in
+    string-in (c17 .pre .0) (c17 .pre .1) .part .forth
 
 part-put-string-end : tie.Need-part-put-string-end
-part-put-string-end c = string-in (c .before .before .before .before .before .before .before .before .before .before .before .before .before .before .before .before .before .pre .0) (c .before .before .before .before .before .before .before .before .before .before .before .before .before .before .before .before .before .pre .1) .part .inside
+part-put-string-end c =
+    let c17 = c .before .before .before .before .before .before .before .before .before .before .before .before .before .before .before .before .before in
+    string-in (c17 .pre .0) (c17 .pre .1) .part .inside
 
 start-requires : tie.Need-start-requires
 start-requires c κs = search needs
 
 put-string-requires : tie.Need-put-string-requires
-put-string-requires c κs = let l = (listed _ _ _ _ _ _ _ _ _ (c .before .before .before .before .before .before .before .before .before .before .before .parse-props .ensures) (c .before .before .before .before .before .listed .given .1)) in put-asks (c .before .before .before .before .before .before .before .before .before .before .before .before .before .before .before .before .before .before .before .before .before .pre .0) (ready-on (ready-step (c .before .before .before .before .before .before .before .before .before .before .before .before .before .before .before .before .before .before .before .before .before .pre .0) (literal-on _ _ (c .before .before .before .before .before .before .before .before .before .before .before .before .before .before .before .before .before .before .before .before .before .pre .0) (c .before .before .before .before .before .before .before .before .before .before .before .before .before .before .before .before .before .before .before .before .before .pre .1) _ (c .before .before .before .before .before .before .before .before .before .before .before .before .before .before .before .before .before .next .ensures) (c .before .before .before .before .before .before .before .before .before .before .before .before .before .before .before .arrived .given .1))) (l .onward) (l .lays)) (c .before .before .start .ensures) (omega (arith, lists-small propBranch l (c .before .before .before .before .before .before .before .before .before .before .before .before .before .before .before .before .before .before .before .before .before .pre .0 .small))) (part-short _ (string-in (c .before .before .before .before .before .before .before .before .before .before .before .before .before .before .before .before .before .before .before .before .before .pre .0) (c .before .before .before .before .before .before .before .before .before .before .before .before .before .before .before .before .before .before .before .before .before .pre .1) .part))
+put-string-requires c κs =
+    let c5 = c .before .before .before .before .before in
+    let c11 = c5 .before .before .before .before .before .before in
+    let c15 = c11 .before .before .before .before in
+    let c17 = c15 .before .before in
+    let c21 = c17 .before .before .before .before in
+    let l = (listed _ _ _ _ _ _ _ _ _ (c11 .parse-props .ensures) (c5 .listed .given .1)) in put-asks (c21 .pre .0) (ready-on (ready-step (c21 .pre .0) (literal-on _ _ (c21 .pre .0) (c21 .pre .1) _ (c17 .next .ensures) (c15 .arrived .given .1))) (l .onward) (l .lays)) (c .before .before .start .ensures) (omega (arith, lists-small propBranch l (c21 .pre .0 .small))) (part-short _ (string-in (c21 .pre .0) (c21 .pre .1) .part))
 
 same-length-3 : tie.Need-same-length-3
 same-length-3 c = search needs
@@ -75,7 +97,15 @@ same-length-4 : tie.Need-same-length-4
 same-length-4 c = search needs
 
 returns-3 : tie.Need-returns-3
-returns-3 c = literal-given _ _ (c .before .before .before .before .before .before .before .before .before .before .before .before .before .before .before .before .before .before .before .before .before .before .before .before .before .before .pre .0) (c .before .before .before .before .before .before .before .before .before .before .before .before .before .before .before .before .before .before .before .before .before .before .before .before .before .before .pre .1) _ (c .before .before .before .before .before .before .before .before .before .before .before .before .before .before .before .before .before .before .before .before .before .before .next .ensures) (c .before .before .before .before .before .before .before .before .before .before .before .before .before .before .before .before .before .before .before .before .arrived .given .1) (listed _ _ _ _ _ _ _ _ _ (c .before .before .before .before .before .before .before .before .before .before .before .before .before .before .before .before .parse-props .ensures) (c .before .before .before .before .before .before .before .before .before .before .listed .given .1)) (c .before .before .before .before .before .before .before .start .ensures) (c .before .before .before .before .put-string .ensures)
+returns-3 c =
+    let c4 = c .before .before .before .before in
+    let c7 = c4 .before .before .before in
+    let c10 = c7 .before .before .before in
+    let c16 = c10 .before .before .before .before .before .before in
+    let c20 = c16 .before .before .before .before in
+    let c22 = c20 .before .before in
+    let c26 = c22 .before .before .before .before in
+    literal-given _ _ (c26 .pre .0) (c26 .pre .1) _ (c22 .next .ensures) (c20 .arrived .given .1) (listed _ _ _ _ _ _ _ _ _ (c16 .parse-props .ensures) (c10 .listed .given .1)) (c7 .start .ensures) (c4 .put-string .ensures)
 
 pub parse-literal-spec : {M : Type 1} → statement M
 parse-literal-spec =

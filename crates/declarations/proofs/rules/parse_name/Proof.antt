@@ -27,19 +27,32 @@ returns : tie.Need-returns
 returns c = taken-not _ _ _ (c .before .before .before .before .parse-identifier .ensures .takes) (taken-told (c .before .before .enum-told .given .1) (c .before .cause .ensures) (c .place .ensures))
 
 sub-put-named : tie.Need-sub-put-named
-sub-put-named c = name-got _ _ (c .before .before .before .before .before .before .before .pre .lies) (c .before .taken .given .1) (c .before .before .before .parse-identifier .ensures) .0 .part .forth
+sub-put-named c =
+    let c3 = c .before .before .before in
+    let c7 = c3 .before .before .before .before in
+    name-got _ _ (c7 .pre .lies) (c .before .taken .given .1) (c3 .parse-identifier .ensures) .0 .part .forth
 
 part-put-named-start : tie.Need-part-put-named-start
-part-put-named-start c = name-got _ _ (c .before .before .before .before .before .before .before .pre .lies) (c .before .taken .given .1) (c .before .before .before .parse-identifier .ensures) .0 .part .forth
+part-put-named-start c =
+    let c3 = c .before .before .before in
+    let c7 = c3 .before .before .before .before in
+    name-got _ _ (c7 .pre .lies) (c .before .taken .given .1) (c3 .parse-identifier .ensures) .0 .part .forth
 
 part-put-named-end : tie.Need-part-put-named-end
-part-put-named-end c = name-got _ _ (c .before .before .before .before .before .before .before .pre .lies) (c .before .taken .given .1) (c .before .before .before .parse-identifier .ensures) .0 .part .inside
+part-put-named-end c =
+    let c3 = c .before .before .before in
+    let c7 = c3 .before .before .before .before in
+    name-got _ _ (c7 .pre .lies) (c .before .taken .given .1) (c3 .parse-identifier .ensures) .0 .part .inside
 
 start-requires : tie.Need-start-requires
 start-requires c κs = search needs
 
 put-named-requires : tie.Need-put-named-requires
-put-named-requires c κs = put-asks (c .before .before .before .before .before .before .before .before .before .before .before .pre) (c .before .before .before .before .before .before .before .before .before .before .before .pre) (c .before .before .start .ensures) (omega arith) (part-short _ (name-got _ _ (c .before .before .before .before .before .before .before .before .before .before .before .pre .lies) (c .before .before .before .before .before .taken .given .1) (c .before .before .before .before .before .before .before .parse-identifier .ensures) .0 .part))
+put-named-requires c κs =
+    let c5 = c .before .before .before .before .before in
+    let c7 = c5 .before .before in
+    let c11 = c7 .before .before .before .before in
+    put-asks (c11 .pre) (c11 .pre) (c .before .before .start .ensures) (omega arith) (part-short _ (name-got _ _ (c11 .pre .lies) (c5 .taken .given .1) (c7 .parse-identifier .ensures) .0 .part))
 
 same-length : tie.Need-same-length
 same-length c = search needs
@@ -48,7 +61,13 @@ same-length-2 : tie.Need-same-length-2
 same-length-2 c = search needs
 
 returns-2 : tie.Need-returns-2
-returns-2 c = name-given _ _ _ (c .before .before .before .before .before .before .before .before .before .before .before .before .before .before .before .before .pre .lies) _ (c .before .before .before .before .before .before .before .before .before .before .before .before .parse-identifier .ensures) (c .before .before .before .before .before .before .before .before .before .before .taken .given .1) (c .before .before .before .before .before .before .before .start .ensures) (c .before .before .before .before .put-named .ensures)
+returns-2 c =
+    let c4 = c .before .before .before .before in
+    let c7 = c4 .before .before .before in
+    let c10 = c7 .before .before .before in
+    let c12 = c10 .before .before in
+    let c16 = c12 .before .before .before .before in
+    name-given _ _ _ (c16 .pre .lies) _ (c12 .parse-identifier .ensures) (c10 .taken .given .1) (c7 .start .ensures) (c4 .put-named .ensures)
 
 pub parse-name-spec : {M : Type 1} → statement M
 parse-name-spec =

@@ -29,10 +29,16 @@ place-requires : tie.Need-place-requires
 place-requires c κs = search needs
 
 returns : tie.Need-returns
-returns c = block-refused commaOrNot (λ _. parseIdentifier) _ (expect-not _ "{" _ _ (c .before .before .before .before .expect-punctuation .ensures) (arrived-told (c .before .before .enum-told .given .1) (c .before .cause .ensures) (c .place .ensures)))
+returns c =
+    let c4 = c .before .before .before .before in
+    block-refused commaOrNot (λ _. parseIdentifier) _ (expect-not _ "{" _ _ (c4 .expect-punctuation .ensures) (arrived-told (c .before .before .enum-told .given .1) (c .before .cause .ensures) (c .place .ensures)))
 
 names-list-requires : tie.Need-names-list-requires
-names-list-requires c κs = ready-step (c .before .before .before .before .before .before .before .before .before .pre) (expect-onward _ "{" _ _ _ (omega arith) (c .before .before .before .before .before .before .before .before .before .pre .lies) (c .before .before .before .before .before .expect-punctuation .ensures) (c .before .before .before .opened .given .1))
+names-list-requires c κs =
+    let c3 = c .before .before .before in
+    let c5 = c3 .before .before in
+    let c9 = c5 .before .before .before .before in
+    ready-step (c9 .pre) (expect-onward _ "{" _ _ _ (omega arith) (c9 .pre .lies) (c5 .expect-punctuation .ensures) (c3 .opened .given .1))
 
 same-length : tie.Need-same-length
 same-length c = search needs
@@ -41,7 +47,12 @@ same-length-2 : tie.Need-same-length-2
 same-length-2 c = search needs
 
 returns-2 : tie.Need-returns-2
-returns-2 c = block-list commaOrNot (λ _. parseIdentifier) (nodesOf (nameBranch (c .before .before .before .before .before .before .before .before .before .before .before .before .before .before .args .kind))) _ _ (c .before .before .before .before .before .before .before .before .before .before .before .before .before .before .pre .lies) _ (c .before .before .before .before .before .before .before .before .before .before .expect-punctuation .ensures) (c .before .before .before .before .before .before .before .before .opened .given .1) _ _ _ (c .before .before .before .before .names-list .result) (c .before .before .before .before .names-list .ensures)
+returns-2 c =
+    let c4 = c .before .before .before .before in
+    let c8 = c4 .before .before .before .before in
+    let c10 = c8 .before .before in
+    let c14 = c10 .before .before .before .before in
+    block-list commaOrNot (λ _. parseIdentifier) (nodesOf (nameBranch (c14 .args .kind))) _ _ (c14 .pre .lies) _ (c10 .expect-punctuation .ensures) (c8 .opened .given .1) _ _ _ (c4 .names-list .result) (c4 .names-list .ensures)
 
 pub parse-names-spec : {M : Type 1} → statement M
 parse-names-spec =

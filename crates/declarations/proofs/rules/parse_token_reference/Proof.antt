@@ -29,7 +29,9 @@ same-length-2 : tie.Need-same-length-2
 same-length-2 c = search needs
 
 returns : tie.Need-returns
-returns c = reference-refused _ _ (expressed-not _ _ _ _ _ _ _ _ _ (c .before .before .before .before .before .before .before .before .parse-inner .ensures) (expressed-told (c .before .before .enum-told .given .1) (c .before .cause .ensures) (c .place .ensures)))
+returns c =
+    let c8 = c .before .before .before .before .before .before .before .before in
+    reference-refused _ _ (expressed-not _ _ _ _ _ _ _ _ _ (c8 .parse-inner .ensures) (expressed-told (c .before .before .enum-told .given .1) (c .before .cause .ensures) (c .place .ensures)))
 
 enum-told-2 : tie.Need-enum-told-2
 enum-told-2 c = search needs
@@ -53,7 +55,10 @@ same-length-4 : tie.Need-same-length-4
 same-length-4 c = search needs
 
 returns-2 : tie.Need-returns-2
-returns-2 c = reference-name _ (expressed _ _ _ _ _ _ _ _ _ (c .before .before .before .before .before .before .before .before .before .parse-inner .ensures) (c .before .before .before .inner .given .1)) (c .enum-told2 .given .1)
+returns-2 c =
+    let c3 = c .before .before .before in
+    let c9 = c3 .before .before .before .before .before .before in
+    reference-name _ (expressed _ _ _ _ _ _ _ _ _ (c9 .parse-inner .ensures) (c3 .inner .given .1)) (c .enum-told2 .given .1)
 
 same-length-5 : tie.Need-same-length-5
 same-length-5 c = search needs
@@ -62,7 +67,10 @@ same-length-6 : tie.Need-same-length-6
 same-length-6 c = search needs
 
 returns-3 : tie.Need-returns-3
-returns-3 c = reference-literal _ (expressed _ _ _ _ _ _ _ _ _ (c .before .before .before .before .before .before .before .before .before .parse-inner .ensures) (c .before .before .before .inner .given .1)) (c .enum-told3 .given .1)
+returns-3 c =
+    let c3 = c .before .before .before in
+    let c9 = c3 .before .before .before .before .before .before in
+    reference-literal _ (expressed _ _ _ _ _ _ _ _ _ (c9 .parse-inner .ensures) (c3 .inner .given .1)) (c .enum-told3 .given .1)
 
 same-length-7 : tie.Need-same-length-7
 same-length-7 c = search needs
@@ -71,7 +79,10 @@ same-length-8 : tie.Need-same-length-8
 same-length-8 c = search needs
 
 returns-4 : tie.Need-returns-4
-returns-4 c = reference-repeat _ (expressed _ _ _ _ _ _ _ _ _ (c .before .before .before .before .before .before .before .before .before .parse-inner .ensures) (c .before .before .before .inner .given .1)) (c .enum-told4 .given .1)
+returns-4 c =
+    let c3 = c .before .before .before in
+    let c9 = c3 .before .before .before .before .before .before in
+    reference-repeat _ (expressed _ _ _ _ _ _ _ _ _ (c9 .parse-inner .ensures) (c3 .inner .given .1)) (c .enum-told4 .given .1)
 
 same-length-9 : tie.Need-same-length-9
 same-length-9 c = search needs
@@ -80,7 +91,10 @@ same-length-10 : tie.Need-same-length-10
 same-length-10 c = search needs
 
 returns-5 : tie.Need-returns-5
-returns-5 c = reference-blank _ (expressed _ _ _ _ _ _ _ _ _ (c .before .before .before .before .before .before .before .before .before .parse-inner .ensures) (c .before .before .before .inner .given .1)) (c .enum-told5 .given .1)
+returns-5 c =
+    let c3 = c .before .before .before in
+    let c9 = c3 .before .before .before .before .before .before in
+    reference-blank _ (expressed _ _ _ _ _ _ _ _ _ (c9 .parse-inner .ensures) (c3 .inner .given .1)) (c .enum-told5 .given .1)
 
 same-length-11 : tie.Need-same-length-11
 same-length-11 c = search needs
@@ -89,7 +103,10 @@ same-length-12 : tie.Need-same-length-12
 same-length-12 c = search needs
 
 returns-6 : tie.Need-returns-6
-returns-6 c = reference-other _ (expressed _ _ _ _ _ _ _ _ _ (c .before .before .before .before .before .before .before .before .before .parse-inner .ensures) (c .before .before .before .inner .given .1)) (c .enum-told6 .given .1)
+returns-6 c =
+    let c3 = c .before .before .before in
+    let c9 = c3 .before .before .before .before .before .before in
+    reference-other _ (expressed _ _ _ _ _ _ _ _ _ (c9 .parse-inner .ensures) (c3 .inner .given .1)) (c .enum-told6 .given .1)
 
 pub parse-token-reference-spec : {M : Type 1} → statement M
 parse-token-reference-spec =

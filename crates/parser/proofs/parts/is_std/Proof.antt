@@ -30,7 +30,11 @@ spells-requires c κs = search needs
 
 returns-2 : tie.Need-returns-2
 unfolding every
-returns-2 c = std-spelled _ (c .before .before .before .before .before .before .args .token) (c .before .before .before .before .mark .ensures) (c .before .before .before .if1 .left) (part-spells _ (letters "std") (c .before .before .before .before .before .before .pre) refl (c .spells .ensures))
+returns-2 c =
+    let c3 = c .before .before .before in
+    let c4 = c3 .before in
+    let c6 = c4 .before .before in
+    std-spelled _ (c6 .args .token) (c4 .mark .ensures) (c3 .if1 .left) (part-spells _ (letters "std") (c6 .pre) refl (c .spells .ensures))
 
 pub is-std-spec : {M : Type 1} → statement M
 is-std-spec =

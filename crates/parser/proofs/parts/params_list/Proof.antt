@@ -78,31 +78,74 @@ same-length-6 : tie.Need-same-length-6 Inv-loop μ-loop
 same-length-6 c = omega (arith, c .before .before .before .before .before .before .before .before .before .loop .inv .lays .stores .same-texts)
 
 returns-3 : tie.Need-returns-3 Inv-loop μ-loop
-returns-3 c = item-refused ">" Must (λ _. parseIdentifier) (c .before .before .before .before .before .before .before .before .before .loop .inv) _ (c .before .before .before .before .before .before .before .before .opening .ensures) (c .before .before .before .before .before .before .u2 .given .1) _ refl (c .before .before .before .before .before .before .before .before .before .loop .records) (c .before .before .before .before .before .before .before .before .before .loop .texts) (P.Refused (c .before .cause2 .result) _) (taken-not _ _ _ (c .before .before .before .before .parse-identifier .ensures .takes) (taken-told (c .before .before .enum-told .given .1) (c .before .cause2 .ensures) (c .place .ensures))) refl
+returns-3 c =
+    let c4 = c .before .before .before .before in
+    let c6 = c4 .before .before in
+    let c8 = c6 .before .before in
+    let c9 = c8 .before in
+    item-refused ">" Must (λ _. parseIdentifier) (c9 .loop .inv) _ (c8 .opening .ensures) (c6 .u2 .given .1) _ refl (c9 .loop .records) (c9 .loop .texts) (P.Refused (c .before .cause2 .result) _) (taken-not _ _ _ (c4 .parse-identifier .ensures .takes) (taken-told (c .before .before .enum-told .given .1) (c .before .cause2 .ensures) (c .place .ensures))) refl
 
 sub-put-named : tie.Need-sub-put-named Inv-loop μ-loop
-sub-put-named c = (name-got _ _ ((item-onward ">" (c .before .before .before .before .before .before .before .opening .ensures) (c .before .before .before .before .before .u2 .given .1)) .lies) (c .before .taken .given .1) (c .before .before .before .parse-identifier .ensures)) .0 .part .forth
+sub-put-named c =
+    let c3 = c .before .before .before in
+    let c5 = c3 .before .before in
+    let c7 = c5 .before .before in
+    (name-got _ _ ((item-onward ">" (c7 .opening .ensures) (c5 .u2 .given .1)) .lies) (c .before .taken .given .1) (c3 .parse-identifier .ensures)) .0 .part .forth
 
 part-put-named-start : tie.Need-part-put-named-start Inv-loop μ-loop
-part-put-named-start c = (name-got _ _ ((item-onward ">" (c .before .before .before .before .before .before .before .opening .ensures) (c .before .before .before .before .before .u2 .given .1)) .lies) (c .before .taken .given .1) (c .before .before .before .parse-identifier .ensures)) .0 .part .forth
+part-put-named-start c =
+    let c3 = c .before .before .before in
+    let c5 = c3 .before .before in
+    let c7 = c5 .before .before in
+    (name-got _ _ ((item-onward ">" (c7 .opening .ensures) (c5 .u2 .given .1)) .lies) (c .before .taken .given .1) (c3 .parse-identifier .ensures)) .0 .part .forth
 
 part-put-named-end : tie.Need-part-put-named-end Inv-loop μ-loop
-part-put-named-end c = (name-got _ _ ((item-onward ">" (c .before .before .before .before .before .before .before .opening .ensures) (c .before .before .before .before .before .u2 .given .1)) .lies) (c .before .taken .given .1) (c .before .before .before .parse-identifier .ensures)) .0 .part .inside
+part-put-named-end c =
+    let c3 = c .before .before .before in
+    let c5 = c3 .before .before in
+    let c7 = c5 .before .before in
+    (name-got _ _ ((item-onward ">" (c7 .opening .ensures) (c5 .u2 .given .1)) .lies) (c .before .taken .given .1) (c3 .parse-identifier .ensures)) .0 .part .inside
 
 start-requires : tie.Need-start-requires Inv-loop μ-loop
 start-requires c κs = tt
 
 put-named-requires : tie.Need-put-named-requires Inv-loop μ-loop
-put-named-requires c κs = let r = ready-step (ready-on (c .before .before .before .before .before .before .before .before .before .before .before .before .before .before .before .before .pre) (c .before .before .before .before .before .before .before .before .before .before .before .before .loop .inv .onward) (c .before .before .before .before .before .before .before .before .before .before .before .before .loop .inv .lays)) (item-onward ">" (c .before .before .before .before .before .before .before .before .before .before .before .opening .ensures) (c .before .before .before .before .before .before .before .before .before .u2 .given .1)) in put-asks r r (c .before .before .start .ensures) (omega arith) (part-short _ ((name-got _ _ ((item-onward ">" (c .before .before .before .before .before .before .before .before .before .before .before .opening .ensures) (c .before .before .before .before .before .before .before .before .before .u2 .given .1)) .lies) (c .before .before .before .before .before .taken .given .1) (c .before .before .before .before .before .before .before .parse-identifier .ensures)) .0 .part))
+put-named-requires c κs =
+    let c5 = c .before .before .before .before .before in
+    let c7 = c5 .before .before in
+    let c9 = c7 .before .before in
+    let c11 = c9 .before .before in
+    let c12 = c11 .before in
+    let c16 = c12 .before .before .before .before in
+    let r = ready-step (ready-on (c16 .pre) (c12 .loop .inv .onward) (c12 .loop .inv .lays)) (item-onward ">" (c11 .opening .ensures) (c9 .u2 .given .1)) in put-asks r r (c .before .before .start .ensures) (omega arith) (part-short _ ((name-got _ _ ((item-onward ">" (c11 .opening .ensures) (c9 .u2 .given .1)) .lies) (c5 .taken .given .1) (c7 .parse-identifier .ensures)) .0 .part))
 
 add-count : tie.Need-add-count Inv-loop μ-loop
-add-count c = omega (arith, listing-small (nameBranch 4) (c .before .before .before .before .before .before .before .before .before .before .before .before .before .before .before .before .before .loop .inv) (c .before .before .before .before .before .before .before .before .before .before .before .before .before .before .before .before .before .before .before .before .before .pre .small) (omega arith))
+add-count c =
+    let c17 = c .before .before .before .before .before .before .before .before .before .before .before .before .before .before .before .before .before in
+    let c21 = c17 .before .before .before .before in
+    omega (arith, listing-small (nameBranch 4) (c17 .loop .inv) (c21 .pre .small) (omega arith))
 
 loop-less : tie.Need-loop-less Inv-loop μ-loop
-loop-less c = omega (arith, item-more ">" Must (λ _. parseIdentifier) (c .before .before .before .before .before .before .before .before .before .before .before .before .before .before .before .before .before .loop .inv) _ (c .before .before .before .before .before .before .before .before .before .before .before .before .before .before .before .before .opening .ensures) (c .before .before .before .before .before .before .before .before .before .before .before .before .before .before .u2 .given .1) _ refl _ _ (P.Done _ _ _) (name-given 4 _ _ ((item-onward ">" (c .before .before .before .before .before .before .before .before .before .before .before .before .before .before .before .before .opening .ensures) (c .before .before .before .before .before .before .before .before .before .before .before .before .before .before .u2 .given .1)) .lies) _ (c .before .before .before .before .before .before .before .before .before .before .before .before .parse-identifier .ensures) (c .before .before .before .before .before .before .before .before .before .before .taken .given .1) (c .before .before .before .before .before .before .before .start .ensures) (c .before .before .before .before .put-named .ensures)) refl .0 .fewer)
+loop-less c =
+    let c4 = c .before .before .before .before in
+    let c7 = c4 .before .before .before in
+    let c10 = c7 .before .before .before in
+    let c12 = c10 .before .before in
+    let c14 = c12 .before .before in
+    let c16 = c14 .before .before in
+    let c17 = c16 .before in
+    omega (arith, item-more ">" Must (λ _. parseIdentifier) (c17 .loop .inv) _ (c16 .opening .ensures) (c14 .u2 .given .1) _ refl _ _ (P.Done _ _ _) (name-given 4 _ _ ((item-onward ">" (c16 .opening .ensures) (c14 .u2 .given .1)) .lies) _ (c12 .parse-identifier .ensures) (c10 .taken .given .1) (c7 .start .ensures) (c4 .put-named .ensures)) refl .0 .fewer)
 
 loop-again : tie.Need-loop-again Inv-loop μ-loop
-loop-again c = item-more ">" Must (λ _. parseIdentifier) (c .before .before .before .before .before .before .before .before .before .before .before .before .before .before .before .before .before .loop .inv) _ (c .before .before .before .before .before .before .before .before .before .before .before .before .before .before .before .before .opening .ensures) (c .before .before .before .before .before .before .before .before .before .before .before .before .before .before .u2 .given .1) _ refl _ _ (P.Done _ _ _) (name-given 4 _ _ ((item-onward ">" (c .before .before .before .before .before .before .before .before .before .before .before .before .before .before .before .before .opening .ensures) (c .before .before .before .before .before .before .before .before .before .before .before .before .before .before .u2 .given .1)) .lies) _ (c .before .before .before .before .before .before .before .before .before .before .before .before .parse-identifier .ensures) (c .before .before .before .before .before .before .before .before .before .before .taken .given .1) (c .before .before .before .before .before .before .before .start .ensures) (c .before .before .before .before .put-named .ensures)) refl .1
+loop-again c =
+    let c4 = c .before .before .before .before in
+    let c7 = c4 .before .before .before in
+    let c10 = c7 .before .before .before in
+    let c12 = c10 .before .before in
+    let c14 = c12 .before .before in
+    let c16 = c14 .before .before in
+    let c17 = c16 .before in
+    item-more ">" Must (λ _. parseIdentifier) (c17 .loop .inv) _ (c16 .opening .ensures) (c14 .u2 .given .1) _ refl _ _ (P.Done _ _ _) (name-given 4 _ _ ((item-onward ">" (c16 .opening .ensures) (c14 .u2 .given .1)) .lies) _ (c12 .parse-identifier .ensures) (c10 .taken .given .1) (c7 .start .ensures) (c4 .put-named .ensures)) refl .1
 
 pub params-list-spec : {M : Type 1} → statement M
 params-list-spec =

@@ -24,13 +24,17 @@ place-requires : tie.Need-place-requires
 place-requires c κs = search needs
 
 returns : tie.Need-returns
-returns c = any-refused _ _ (arrived-not _ _ (c .before .before .before .before .next .ensures .0) (arrived-told (c .before .before .enum-told .given .1) (c .before .cause .ensures) (c .place .ensures)))
+returns c =
+    let c4 = c .before .before .before .before in
+    any-refused _ _ (arrived-not _ _ (c4 .next .ensures .0) (arrived-told (c .before .before .enum-told .given .1) (c .before .cause .ensures) (c .place .ensures)))
 
 start-requires : tie.Need-start-requires
 start-requires c κs = search needs
 
 put-plain-requires : tie.Need-put-plain-requires
-put-plain-requires c κs = put-plain-asks (c .before .before .before .before .before .before .before .before .before .pre .0) (c .before .before .before .before .before .before .before .before .before .pre .0) (c .start .ensures) (omega arith)
+put-plain-requires c κs =
+    let c9 = c .before .before .before .before .before .before .before .before .before in
+    put-plain-asks (c9 .pre .0) (c9 .pre .0) (c .start .ensures) (omega arith)
 
 start-requires-2 : tie.Need-start-requires-2
 start-requires-2 c κs = search needs
@@ -39,7 +43,13 @@ same-length : tie.Need-same-length
 same-length c = search needs
 
 returns-2 : tie.Need-returns-2
-returns-2 c = any-yields _ _ (c .before .before .before .before .before .before .before .before .before .before .before .before .before .pre .0) (c .before .before .before .before .before .before .before .before .before .before .before .before .before .pre .1) _ (c .before .before .before .before .before .before .before .before .before .next .ensures) (c .before .before .before .before .before .before .before .arrived .given .1) (c .before .before .before .before .start .ensures) (c .start2 .ensures) (c .before .before .before .put-plain .ensures)
+returns-2 c =
+    let c3 = c .before .before .before in
+    let c4 = c3 .before in
+    let c7 = c4 .before .before .before in
+    let c9 = c7 .before .before in
+    let c13 = c9 .before .before .before .before in
+    any-yields _ _ (c13 .pre .0) (c13 .pre .1) _ (c9 .next .ensures) (c7 .arrived .given .1) (c4 .start .ensures) (c .start2 .ensures) (c3 .put-plain .ensures)
 
 pub parse-any-spec : {M : Type 1} → statement M
 parse-any-spec =

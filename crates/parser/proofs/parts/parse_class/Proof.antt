@@ -48,19 +48,32 @@ place-requires : tie.Need-place-requires
 place-requires c κs = search needs
 
 returns-2 : tie.Need-returns-2
-returns-2 c = class-refused _ _ (named-some _ (c .before .before .before .before .before .before .before .before .class-from-name .ensures) (c .before .before .before .before .before .before .class .given .1)) (arrived-not _ _ (c .before .before .before .before .next .ensures .0) (arrived-told (c .before .before .enum-told2 .given .1) (c .before .cause .ensures) (c .place .ensures)))
+returns-2 c =
+    let c4 = c .before .before .before .before in
+    let c6 = c4 .before .before in
+    let c8 = c6 .before .before in
+    class-refused _ _ (named-some _ (c8 .class-from-name .ensures) (c6 .class .given .1)) (arrived-not _ _ (c4 .next .ensures .0) (arrived-told (c .before .before .enum-told2 .given .1) (c .before .cause .ensures) (c .place .ensures)))
 
 class-value-requires : tie.Need-class-value-requires
 class-value-requires c κs = search needs
 
 put-plain-requires : tie.Need-put-plain-requires
-put-plain-requires c κs = plain-asks (c .before .before .before .before .before .before .before .before .before .before .before .before .before .before .pre .0) (c .before .before .before .before .before .before .before .before .before .before .before .before .before .before .pre .3) (omega arith)
+put-plain-requires c κs =
+    let c14 = c .before .before .before .before .before .before .before .before .before .before .before .before .before .before in
+    plain-asks (c14 .pre .0) (c14 .pre .3) (omega arith)
 
 same-length : tie.Need-same-length
 same-length c = search needs
 
 returns-3 : tie.Need-returns-3
-returns-3 c = class-yields _ _ (c .before .before .before .before .before .before .before .before .before .before .before .before .before .before .before .before .before .pre .0) (c .before .before .before .before .before .before .before .before .before .before .before .before .before .before .before .before .before .pre .1) _ (c .before .before .before .before .before .before .before .before .next .ensures) (c .before .before .before .before .before .before .arrived .given .1) (named-some _ (c .before .before .before .before .before .before .before .before .before .before .before .before .class-from-name .ensures) (c .before .before .before .before .before .before .before .before .before .before .class .given .1)) (c .before .before .before .before .before .before .before .before .before .before .before .before .before .before .before .before .before .pre .3) (c .before .before .before .class-value .ensures) (c .before .before .put-plain .ensures)
+returns-3 c =
+    let c3 = c .before .before .before in
+    let c6 = c3 .before .before .before in
+    let c8 = c6 .before .before in
+    let c10 = c8 .before .before in
+    let c12 = c10 .before .before in
+    let c17 = c12 .before .before .before .before .before in
+    class-yields _ _ (c17 .pre .0) (c17 .pre .1) _ (c8 .next .ensures) (c6 .arrived .given .1) (named-some _ (c12 .class-from-name .ensures) (c10 .class .given .1)) (c17 .pre .3) (c3 .class-value .ensures) (c .before .before .put-plain .ensures)
 
 pub parse-class-spec : {M : Type 1} → statement M
 parse-class-spec =

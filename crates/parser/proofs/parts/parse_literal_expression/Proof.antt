@@ -24,7 +24,9 @@ place-requires : tie.Need-place-requires
 place-requires c κs = search needs
 
 returns : tie.Need-returns
-returns c = literal-refused _ _ _ _ _ (arrived-not _ _ (c .before .before .before .before .next .ensures .0) (arrived-told (c .before .before .enum-told .given .1) (c .before .cause .ensures) (c .place .ensures)))
+returns c =
+    let c4 = c .before .before .before .before in
+    literal-refused _ _ _ _ _ (arrived-not _ _ (c4 .next .ensures .0) (arrived-told (c .before .before .enum-told .given .1) (c .before .cause .ensures) (c .place .ensures)))
 
 sub-set-atom : tie.Need-sub-set-atom
 sub-set-atom c = string-in (c .before .before .before .before .before .before .before .pre .0) (c .before .before .before .before .before .before .before .pre .1) .part .forth
@@ -45,7 +47,9 @@ start-requires : tie.Need-start-requires
 start-requires c κs = search needs
 
 put-plain-requires : tie.Need-put-plain-requires
-put-plain-requires c κs = put-plain-asks (c .before .before .before .before .before .before .before .before .before .before .before .before .before .pre .0) (c .before .before .before .before .before .before .before .before .before .before .before .before .before .pre .0) (c .start .ensures) (omega arith)
+put-plain-requires c κs =
+    let c13 = c .before .before .before .before .before .before .before .before .before .before .before .before .before in
+    put-plain-asks (c13 .pre .0) (c13 .pre .0) (c .start .ensures) (omega arith)
 
 start-requires-2 : tie.Need-start-requires-2
 start-requires-2 c κs = search needs
@@ -54,19 +58,27 @@ enum-told-3 : tie.Need-enum-told-3
 enum-told-3 c = search needs
 
 sub-put-string : tie.Need-sub-put-string
-sub-put-string c = string-in (c .before .before .before .before .before .before .before .before .before .before .before .pre .0) (c .before .before .before .before .before .before .before .before .before .before .before .pre .1) .part .forth
+sub-put-string c =
+    let c11 = c .before .before .before .before .before .before .before .before .before .before .before in
+    string-in (c11 .pre .0) (c11 .pre .1) .part .forth
 
 part-put-string-start : tie.Need-part-put-string-start
-part-put-string-start c = string-in (c .before .before .before .before .before .before .before .before .before .before .before .pre .0) (c .before .before .before .before .before .before .before .before .before .before .before .pre .1) .part .forth
+part-put-string-start c =
+    let c11 = c .before .before .before .before .before .before .before .before .before .before .before in
+    string-in (c11 .pre .0) (c11 .pre .1) .part .forth
 
 part-put-string-end : tie.Need-part-put-string-end
-part-put-string-end c = string-in (c .before .before .before .before .before .before .before .before .before .before .before .pre .0) (c .before .before .before .before .before .before .before .before .before .before .before .pre .1) .part .inside
+part-put-string-end c =
+    let c11 = c .before .before .before .before .before .before .before .before .before .before .before in
+    string-in (c11 .pre .0) (c11 .pre .1) .part .inside
 
 start-requires-3 : tie.Need-start-requires-3
 start-requires-3 c κs = search needs
 
 put-string-requires : tie.Need-put-string-requires
-put-string-requires c κs = put-asks (c .before .before .before .before .before .before .before .before .before .before .before .before .before .before .before .pre .0) (c .before .before .before .before .before .before .before .before .before .before .before .before .before .before .before .pre .0) (c .before .before .start3 .ensures) (omega arith) (part-short _ (string-in (c .before .before .before .before .before .before .before .before .before .before .before .before .before .before .before .pre .0) (c .before .before .before .before .before .before .before .before .before .before .before .before .before .before .before .pre .1) .part))
+put-string-requires c κs =
+    let c15 = c .before .before .before .before .before .before .before .before .before .before .before .before .before .before .before in
+    put-asks (c15 .pre .0) (c15 .pre .0) (c .before .before .start3 .ensures) (omega arith) (part-short _ (string-in (c15 .pre .0) (c15 .pre .1) .part))
 
 start-requires-4 : tie.Need-start-requires-4
 start-requires-4 c κs = search needs
@@ -75,7 +87,15 @@ same-length : tie.Need-same-length
 same-length c = search needs
 
 returns-2 : tie.Need-returns-2
-returns-2 c = empty-yields _ _ (c .before .before .before .before .before .before .before .before .before .before .before .before .before .before .before .before .before .pre .0) (c .before .before .before .before .before .before .before .before .before .before .before .before .before .before .before .before .before .pre .1) _ (c .before .before .before .before .before .before .before .before .before .before .before .before .before .next .ensures) (c .before .before .before .before .before .before .before .before .before .before .before .arrived .given .1) (value-none _ _ (c .before .before .before .before .before .before .before .before .set-atom .ensures) (c .before .before .before .before .before .before .enum-told2 .given .1)) (c .before .before .before .before .start .ensures) (c .start2 .ensures) (c .before .before .before .put-plain .ensures)
+returns-2 c =
+    let c3 = c .before .before .before in
+    let c4 = c3 .before in
+    let c6 = c4 .before .before in
+    let c8 = c6 .before .before in
+    let c11 = c8 .before .before .before in
+    let c13 = c11 .before .before in
+    let c17 = c13 .before .before .before .before in
+    empty-yields _ _ (c17 .pre .0) (c17 .pre .1) _ (c13 .next .ensures) (c11 .arrived .given .1) (value-none _ _ (c8 .set-atom .ensures) (c6 .enum-told2 .given .1)) (c4 .start .ensures) (c .start2 .ensures) (c3 .put-plain .ensures)
 
 same-length-2 : tie.Need-same-length-2
 same-length-2 c = search needs
@@ -84,7 +104,15 @@ same-length-3 : tie.Need-same-length-3
 same-length-3 c = search needs
 
 returns-3 : tie.Need-returns-3
-returns-3 c = literal-yields _ _ (c .before .before .before .before .before .before .before .before .before .before .before .before .before .before .before .before .before .before .before .before .before .pre .0) (c .before .before .before .before .before .before .before .before .before .before .before .before .before .before .before .before .before .before .before .before .before .pre .1) _ (c .before .before .before .before .before .before .before .before .before .before .before .before .before .before .before .before .before .next .ensures) (c .before .before .before .before .before .before .before .before .before .before .before .before .before .before .before .arrived .given .1) (value-some _ _ (c .before .before .before .before .before .before .before .before .before .before .before .before .set-atom .ensures) (c .before .before .before .before .before .before .before .before .before .before .enum-told3 .given .1)) (c .before .before .before .before .before .before .before .before .start3 .ensures) (c .start4 .ensures) (c .before .before .before .before .before .put-string .ensures)
+returns-3 c =
+    let c5 = c .before .before .before .before .before in
+    let c8 = c5 .before .before .before in
+    let c10 = c8 .before .before in
+    let c12 = c10 .before .before in
+    let c15 = c12 .before .before .before in
+    let c17 = c15 .before .before in
+    let c21 = c17 .before .before .before .before in
+    literal-yields _ _ (c21 .pre .0) (c21 .pre .1) _ (c17 .next .ensures) (c15 .arrived .given .1) (value-some _ _ (c12 .set-atom .ensures) (c10 .enum-told3 .given .1)) (c8 .start3 .ensures) (c .start4 .ensures) (c5 .put-string .ensures)
 
 pub parse-literal-expression-spec : {M : Type 1} → statement M
 parse-literal-expression-spec =

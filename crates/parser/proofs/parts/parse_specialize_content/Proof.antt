@@ -21,7 +21,10 @@ part-put-string-end : tie.Need-part-put-string-end
 part-put-string-end c = content-part (c .before .before .before .before .before .before .pre) (c .before .shape .given .1) .inside
 
 put-string-requires : tie.Need-put-string-requires
-put-string-requires c κs = short-asks (c .before .before .before .before .before .before .before .before .before .pre .small) (part-short _ (content-part (c .before .before .before .before .before .before .before .before .before .pre) (c .before .before .before .before .shape .given .1))) (c .before .before .before .before .before .before .before .before .before .pre .starts) (omega arith) (c .before .before .before .before .before .before .before .before .before .pre .room) (c .before .before .before .before .before .before .before .before .before .pre .space)
+put-string-requires c κs =
+    let c4 = c .before .before .before .before in
+    let c9 = c4 .before .before .before .before .before in
+    short-asks (c9 .pre .small) (part-short _ (content-part (c9 .pre) (c4 .shape .given .1))) (c9 .pre .starts) (omega arith) (c9 .pre .room) (c9 .pre .space)
 
 enum-told : tie.Need-enum-told
 enum-told c = search needs
@@ -42,7 +45,11 @@ same-length-2 : tie.Need-same-length-2
 same-length-2 c = search needs
 
 returns : tie.Need-returns
-returns c = content-stored (c .before .before .before .before .before .before .before .before .before .before .before .before .before .before .pre) (c .before .before .before .before .before .before .before .before .before .shape .given .1) (c .before .before .before .before .put-string .ensures)
+returns c =
+    let c4 = c .before .before .before .before in
+    let c9 = c4 .before .before .before .before .before in
+    let c14 = c9 .before .before .before .before .before in
+    content-stored (c14 .pre) (c9 .shape .given .1) (c4 .put-string .ensures)
 
 returns-2 : tie.Need-returns-2
 unfolding refuse

@@ -19,7 +19,10 @@ part-put-named-end : tie.Need-part-put-named-end
 part-put-named-end c = inline-part (c .before .before .before .before .before .before .pre .part) (c .before .name .given .1) .inside
 
 put-named-requires : tie.Need-put-named-requires
-put-named-requires c κs = short-asks (c .before .before .before .before .before .before .before .before .before .pre .small) (part-short _ (inline-part (c .before .before .before .before .before .before .before .before .before .pre .part) (c .before .before .before .before .name .given .1))) (c .before .before .before .before .before .before .before .before .before .pre .starts) (c .before .before .before .before .before .before .before .before .before .pre .few) (c .before .before .before .before .before .before .before .before .before .pre .room) (c .before .before .before .before .before .before .before .before .before .pre .space)
+put-named-requires c κs =
+    let c4 = c .before .before .before .before in
+    let c9 = c4 .before .before .before .before .before in
+    short-asks (c9 .pre .small) (part-short _ (inline-part (c9 .pre .part) (c4 .name .given .1))) (c9 .pre .starts) (c9 .pre .few) (c9 .pre .room) (c9 .pre .space)
 
 enum-told : tie.Need-enum-told
 enum-told c = search needs

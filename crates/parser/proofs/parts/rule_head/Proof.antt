@@ -30,10 +30,16 @@ same-length-2 : tie.Need-same-length-2
 same-length-2 c = search needs
 
 returns : tie.Need-returns
-returns c = head-props _ (listed-not _ _ _ _ _ _ _ _ _ (c .before .before .before .before .before .before .before .before .parse-props .ensures) (listed-told (c .before .before .enum-told .given .1) (c .before .cause .ensures) (c .place .ensures)))
+returns c =
+    let c8 = c .before .before .before .before .before .before .before .before in
+    head-props _ (listed-not _ _ _ _ _ _ _ _ _ (c8 .parse-props .ensures) (listed-told (c .before .before .enum-told .given .1) (c .before .cause .ensures) (c .place .ensures)))
 
 parse-params-requires : tie.Need-parse-params-requires
-parse-params-requires c κs = let l = (listed _ _ _ _ _ _ _ _ _ (c .before .before .before .before .before .before .before .before .before .parse-props .ensures) (c .before .before .before .listed .given .1)) in ready-on (c .before .before .before .before .before .before .before .before .before .before .before .before .before .before .before .pre) (l .onward) (l .lays)
+parse-params-requires c κs =
+    let c3 = c .before .before .before in
+    let c9 = c3 .before .before .before .before .before .before in
+    let c15 = c9 .before .before .before .before .before .before in
+    let l = (listed _ _ _ _ _ _ _ _ _ (c9 .parse-props .ensures) (c3 .listed .given .1)) in ready-on (c15 .pre) (l .onward) (l .lays)
 
 enum-known-named : tie.Need-enum-known-named
 enum-known-named c = search needs
@@ -54,7 +60,11 @@ same-length-4 : tie.Need-same-length-4
 same-length-4 c = search needs
 
 returns-2 : tie.Need-returns-2
-returns-2 c = head-params _ ((listed _ _ _ _ _ _ _ _ _ (c .before .before .before .before .before .before .before .before .before .before .before .before .before .before .before .before .before .before .parse-props .ensures) (c .before .before .before .before .before .before .before .before .before .before .before .before .listed .given .1)) .gives) (listed-not _ _ _ _ _ _ _ _ _ (c .before .before .before .before .before .before .before .before .parse-params .ensures) (listed-told (c .before .before .enum-told2 .given .1) (c .before .cause2 .ensures) (c .place2 .ensures)))
+returns-2 c =
+    let c8 = c .before .before .before .before .before .before .before .before in
+    let c12 = c8 .before .before .before .before in
+    let c18 = c12 .before .before .before .before .before .before in
+    head-params _ ((listed _ _ _ _ _ _ _ _ _ (c18 .parse-props .ensures) (c12 .listed .given .1)) .gives) (listed-not _ _ _ _ _ _ _ _ _ (c8 .parse-params .ensures) (listed-told (c .before .before .enum-told2 .given .1) (c .before .cause2 .ensures) (c .place2 .ensures)))
 
 same-length-5 : tie.Need-same-length-5
 same-length-5 c = search needs
@@ -63,7 +73,11 @@ same-length-6 : tie.Need-same-length-6
 same-length-6 c = search needs
 
 returns-3 : tie.Need-returns-3
-returns-3 c = heads (listed _ _ _ _ _ _ _ _ _ (c .before .before .before .before .before .before .before .before .before .before .before .before .before .before .before .before .before .parse-props .ensures) (c .before .before .before .before .before .before .before .before .before .before .before .listed .given .1)) (listed _ _ _ _ _ _ _ _ _ (c .before .before .before .before .before .before .before .parse-params .ensures) (c .before .named .given .1))
+returns-3 c =
+    let c7 = c .before .before .before .before .before .before .before in
+    let c11 = c7 .before .before .before .before in
+    let c17 = c11 .before .before .before .before .before .before in
+    heads (listed _ _ _ _ _ _ _ _ _ (c17 .parse-props .ensures) (c11 .listed .given .1)) (listed _ _ _ _ _ _ _ _ _ (c7 .parse-params .ensures) (c .before .named .given .1))
 
 pub rule-head-spec : {M : Type 1} → statement M
 rule-head-spec =

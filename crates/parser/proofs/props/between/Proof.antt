@@ -33,13 +33,24 @@ returns : tie.Need-returns
 returns c = between-must _ _ (c .before .before .before .before .pre) (c .before .enum-told .given .1) (c .expect-punctuation .ensures)
 
 returns-2 : tie.Need-returns-2
-returns-2 c = between-yes _ _ (c .before .before .before .before .before .before .before .pre) (c .before .before .before .before .enum-told2 .given .1) _ (c .before .before .before .eat-punctuation .ensures) (c .before .u .given .1)
+returns-2 c =
+    let c3 = c .before .before .before in
+    let c4 = c3 .before in
+    let c7 = c4 .before .before .before in
+    between-yes _ _ (c7 .pre) (c4 .enum-told2 .given .1) _ (c3 .eat-punctuation .ensures) (c .before .u .given .1)
 
 returns-3 : tie.Need-returns-3
-returns-3 c = between-not _ _ (c .before .before .before .before .before .before .pre) (c .before .before .before .enum-told2 .given .1) _ (c .before .before .eat-punctuation .ensures) (c .enum-told3 .given .1)
+returns-3 c =
+    let c3 = c .before .before .before in
+    let c6 = c3 .before .before .before in
+    between-not _ _ (c6 .pre) (c3 .enum-told2 .given .1) _ (c .before .before .eat-punctuation .ensures) (c .enum-told3 .given .1)
 
 returns-4 : tie.Need-returns-4
-returns-4 c = between-refused _ _ (c .before .before .before .before .before .before .before .pre) (c .before .before .before .before .enum-told2 .given .1) _ (c .before .before .before .eat-punctuation .ensures) (c .before .cause .given .1)
+returns-4 c =
+    let c3 = c .before .before .before in
+    let c4 = c3 .before in
+    let c7 = c4 .before .before .before in
+    between-refused _ _ (c7 .pre) (c4 .enum-told2 .given .1) _ (c3 .eat-punctuation .ensures) (c .before .cause .given .1)
 
 returns-5 : tie.Need-returns-5
 returns-5 c = between-none _ _ (c .before .before .before .pre) (c .enum-told4 .given .1)

@@ -34,16 +34,32 @@ place-requires : tie.Need-place-requires
 place-requires c κs = search needs
 
 returns : tie.Need-returns
-returns c = opening-halt _ _ (c .before .before .before .before .before .before .before .before .before .pre .0) (c .before .before .before .before .before .before .before .before .before .pre .1) _ _ _ (c .before .before .before .before .before .before .before .eat-punctuation .ensures) (c .before .before .before .before .before .enum-told .given .1) _ (c .before .before .before .before .separator .ensures) (arrived-told (c .before .before .enum-told2 .given .1) (c .before .cause2 .ensures) (c .place .ensures))
+returns c =
+    let c4 = c .before .before .before .before in
+    let c5 = c4 .before in
+    let c7 = c5 .before .before in
+    let c9 = c7 .before .before in
+    opening-halt _ _ (c9 .pre .0) (c9 .pre .1) _ _ _ (c7 .eat-punctuation .ensures) (c5 .enum-told .given .1) _ (c4 .separator .ensures) (arrived-told (c .before .before .enum-told2 .given .1) (c .before .cause2 .ensures) (c .place .ensures))
 
 returns-2 : tie.Need-returns-2
-returns-2 c = opening-closed _ _ (c .before .before .before .before .before .pre .0) (c .before .before .before .before .before .pre .1) _ _ _ (c .before .before .before .eat-punctuation .ensures) (c .before .u .given .1)
+returns-2 c =
+    let c3 = c .before .before .before in
+    let c5 = c3 .before .before in
+    opening-closed _ _ (c5 .pre .0) (c5 .pre .1) _ _ _ (c3 .eat-punctuation .ensures) (c .before .u .given .1)
 
 returns-3 : tie.Need-returns-3
-returns-3 c = opening-refused _ _ (c .before .before .before .before .before .pre .0) (c .before .before .before .before .before .pre .1) _ _ _ (c .before .before .before .eat-punctuation .ensures) (c .before .cause .given .1)
+returns-3 c =
+    let c3 = c .before .before .before in
+    let c5 = c3 .before .before in
+    opening-refused _ _ (c5 .pre .0) (c5 .pre .1) _ _ _ (c3 .eat-punctuation .ensures) (c .before .cause .given .1)
 
 returns-4 : tie.Need-returns-4
-returns-4 c = opening-item _ _ (c .before .before .before .before .before .before .before .before .pre .0) (c .before .before .before .before .before .before .before .before .pre .1) _ _ _ (c .before .before .before .before .before .before .eat-punctuation .ensures) (c .before .before .before .before .enum-told .given .1) _ (c .before .before .before .separator .ensures) (c .before .arrived .given .1)
+returns-4 c =
+    let c3 = c .before .before .before in
+    let c4 = c3 .before in
+    let c6 = c4 .before .before in
+    let c8 = c6 .before .before in
+    opening-item _ _ (c8 .pre .0) (c8 .pre .1) _ _ _ (c6 .eat-punctuation .ensures) (c4 .enum-told .given .1) _ (c3 .separator .ensures) (c .before .arrived .given .1)
 
 pub opening-spec : {M : Type 1} → statement M
 opening-spec =

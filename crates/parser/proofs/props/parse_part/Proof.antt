@@ -18,22 +18,39 @@ enum-known-kind : tie.Need-enum-known-kind
 enum-known-kind c = search needs
 
 part-string-requires : tie.Need-part-string-requires
-part-string-requires c κs = (ready-as (c .before .before .before .before .before .before .token .given .1) (c .before .before .before .before .before .before .before .before .before .before .before .pre), ap stringPart (c .before .before .before .kind .given .1))
+part-string-requires c κs =
+    let c3 = c .before .before .before in
+    let c6 = c3 .before .before .before in
+    let c11 = c6 .before .before .before .before .before in
+    (ready-as (c6 .token .given .1) (c11 .pre), ap stringPart (c3 .kind .given .1))
 
 enum-known-kind-2 : tie.Need-enum-known-kind-2
 enum-known-kind-2 c = search needs
 
 sub-part-value : tie.Need-sub-part-value
-sub-part-value c = name-in (c .before .before .before .before .before .before .before .before .before .pre) (is-name (c .before .before .before .before .token .given .1) (c .before .kind2 .given .1)) .part .forth
+sub-part-value c =
+    let c4 = c .before .before .before .before in
+    let c9 = c4 .before .before .before .before .before in
+    name-in (c9 .pre) (is-name (c4 .token .given .1) (c .before .kind2 .given .1)) .part .forth
 
 part-part-value-start : tie.Need-part-part-value-start
-part-part-value-start c = name-in (c .before .before .before .before .before .before .before .before .before .pre) (is-name (c .before .before .before .before .token .given .1) (c .before .kind2 .given .1)) .part .forth
+part-part-value-start c =
+    let c4 = c .before .before .before .before in
+    let c9 = c4 .before .before .before .before .before in
+    name-in (c9 .pre) (is-name (c4 .token .given .1) (c .before .kind2 .given .1)) .part .forth
 
 part-part-value-end : tie.Need-part-part-value-end
-part-part-value-end c = name-in (c .before .before .before .before .before .before .before .before .before .pre) (is-name (c .before .before .before .before .token .given .1) (c .before .kind2 .given .1)) .part .inside
+part-part-value-end c =
+    let c4 = c .before .before .before .before in
+    let c9 = c4 .before .before .before .before .before in
+    name-in (c9 .pre) (is-name (c4 .token .given .1) (c .before .kind2 .given .1)) .part .inside
 
 part-value-requires : tie.Need-part-value-requires
-part-value-requires c κs = let o = c .before .before .before .before .before .before .before .before .before .before .before .before in (ready-as (c .before .before .before .before .before .before .before .token .given .1) (o .pre), name-value _ _ (ready-as (c .before .before .before .before .before .before .before .token .given .1) (o .pre) .lies) (ap namePart (c .before .before .before .before .kind2 .given .1)))
+part-value-requires c κs =
+    let c4 = c .before .before .before .before in
+    let c7 = c4 .before .before .before in
+    let c12 = c7 .before .before .before .before .before in
+    let o = c12 in (ready-as (c7 .token .given .1) (o .pre), name-value _ _ (ready-as (c7 .token .given .1) (o .pre) .lies) (ap namePart (c4 .kind2 .given .1)))
 
 enum-told-2 : tie.Need-enum-told-2
 enum-told-2 c = search needs
@@ -48,10 +65,19 @@ slice-aggregate-part-value : tie.Need-slice-aggregate-part-value
 slice-aggregate-part-value c = search needs
 
 part-value-requires-2 : tie.Need-part-value-requires-2
-part-value-requires-2 c κs = let o = c .before .before .before .before .before .before .before .before .before .before .before .before .before in (ready-as (c .before .before .before .before .before .before .before .before .token .given .1) (o .pre), dot-value _ _ (ready-as (c .before .before .before .before .before .before .before .before .token .given .1) (o .pre) .lies) (ap codeIn (c .before .before .before .before .before .kind3 .given .1) ∙ c .before .before .before .match3 .keys1))
+part-value-requires-2 c κs =
+    let c3 = c .before .before .before in
+    let c5 = c3 .before .before in
+    let c8 = c5 .before .before .before in
+    let c13 = c8 .before .before .before .before .before in
+    let o = c13 in (ready-as (c8 .token .given .1) (o .pre), dot-value _ _ (ready-as (c8 .token .given .1) (o .pre) .lies) (ap codeIn (c5 .kind3 .given .1) ∙ c3 .match3 .keys1))
 
 part-braced-requires : tie.Need-part-braced-requires
-part-braced-requires c κs = (ready-as (c .before .before .before .before .before .before .before .token .given .1) (c .before .before .before .before .before .before .before .before .before .before .before .before .pre), ap codeIn (c .before .before .before .before .kind3 .given .1) ∙ c .before .before .match3 .keys2)
+part-braced-requires c κs =
+    let c4 = c .before .before .before .before in
+    let c7 = c4 .before .before .before in
+    let c12 = c7 .before .before .before .before .before in
+    (ready-as (c7 .token .given .1) (c12 .pre), ap codeIn (c4 .kind3 .given .1) ∙ c .before .before .match3 .keys2)
 
 returns : tie.Need-returns
 returns c = part-none _ _ (end-by _ _ (c .enum-told .given .1))

@@ -36,7 +36,10 @@ same-length-2 : tie.Need-same-length-2 Inv-loop μ-loop
 same-length-2 c = omega (arith, c .before .before .before .before .before .before .before .before .before .loop .inv .lays .stores .same-texts)
 
 returns : tie.Need-returns Inv-loop μ-loop
-returns c = turn-over (c .before .before .before .before .before .before .before .before .before .loop .inv) _ (part-any _ _) _ _ _ (c .before .before .before .before .before .before .parse-part .ensures) (c .enum-told .given .1)
+returns c =
+    let c6 = c .before .before .before .before .before .before in
+    let c9 = c6 .before .before .before in
+    turn-over (c9 .loop .inv) _ (part-any _ _) _ _ _ (c6 .parse-part .ensures) (c .enum-told .given .1)
 
 enum-known-cause : tie.Need-enum-known-cause Inv-loop μ-loop
 enum-known-cause c = search needs
@@ -48,19 +51,31 @@ same-length-4 : tie.Need-same-length-4 Inv-loop μ-loop
 same-length-4 c = omega (arith, c .before .before .before .before .before .before .before .before .before .before .loop .inv .lays .stores .same-texts)
 
 returns-2 : tie.Need-returns-2 Inv-loop μ-loop
-returns-2 c = turn-refused (c .before .before .before .before .before .before .before .before .before .before .loop .inv) _ (part-any _ _) _ _ _ (c .before .before .before .before .before .before .before .parse-part .ensures) (c .before .cause .given .1)
+returns-2 c =
+    let c7 = c .before .before .before .before .before .before .before in
+    let c10 = c7 .before .before .before in
+    turn-refused (c10 .loop .inv) _ (part-any _ _) _ _ _ (c7 .parse-part .ensures) (c .before .cause .given .1)
 
 enum-known-u : tie.Need-enum-known-u Inv-loop μ-loop
 enum-known-u c = search needs
 
 add-count : tie.Need-add-count Inv-loop μ-loop
-add-count c = omega (arith, listing-small partBranch (c .before .before .before .before .before .before .before .before .before .before .loop .inv) (c .before .before .before .before .before .before .before .before .before .before .before .before .before .before .pre .small) (omega arith))
+add-count c =
+    let c10 = c .before .before .before .before .before .before .before .before .before .before in
+    let c14 = c10 .before .before .before .before in
+    omega (arith, listing-small partBranch (c10 .loop .inv) (c14 .pre .small) (omega arith))
 
 loop-less : tie.Need-loop-less Inv-loop μ-loop
-loop-less c = omega (arith, turn-more (c .before .before .before .before .before .before .before .before .before .before .loop .inv) _ (part-any _ _) _ _ _ (c .before .before .before .before .before .before .before .parse-part .ensures) (c .before .u .given .1) .0 .fewer)
+loop-less c =
+    let c7 = c .before .before .before .before .before .before .before in
+    let c10 = c7 .before .before .before in
+    omega (arith, turn-more (c10 .loop .inv) _ (part-any _ _) _ _ _ (c7 .parse-part .ensures) (c .before .u .given .1) .0 .fewer)
 
 loop-again : tie.Need-loop-again Inv-loop μ-loop
-loop-again c = turn-more (c .before .before .before .before .before .before .before .before .before .before .loop .inv) _ (part-any _ _) _ _ _ (c .before .before .before .before .before .before .before .parse-part .ensures) (c .before .u .given .1) .1
+loop-again c =
+    let c7 = c .before .before .before .before .before .before .before in
+    let c10 = c7 .before .before .before in
+    turn-more (c10 .loop .inv) _ (part-any _ _) _ _ _ (c7 .parse-part .ensures) (c .before .u .given .1) .1
 
 pub parse-parts-spec : {M : Type 1} → statement M
 parse-parts-spec =

@@ -13,7 +13,11 @@ enum-known-a : tie.Need-enum-known-a
 enum-known-a c = search needs
 
 prop-named-requires : tie.Need-prop-named-requires
-prop-named-requires c κs = (c .before .before .before .before .before .before .before .before .before .pre, (refl, sym (c .before .before .before .before .before .at .ensures) ∙ c .before .before .before .a .given .1))
+prop-named-requires c κs =
+    let c3 = c .before .before .before in
+    let c5 = c3 .before .before in
+    let c9 = c5 .before .before .before .before in
+    (c9 .pre, (refl, sym (c5 .at .ensures) ∙ c3 .a .given .1))
 
 enum-told : tie.Need-enum-told
 enum-told c = search needs
@@ -31,10 +35,20 @@ start-requires : tie.Need-start-requires
 start-requires c κs = search needs
 
 returns : tie.Need-returns
-returns c = prop-none _ _ (sym (c .before .before .before .before .before .before .at .ensures) ∙ c .before .before .before .before .enum-told .given .1) (sym (c .before .before .before .name .ensures) ∙ c .before .enum-told2 .given .1) (c .start .ensures)
+returns c =
+    let c3 = c .before .before .before in
+    let c4 = c3 .before in
+    let c6 = c4 .before .before in
+    prop-none _ _ (sym (c6 .at .ensures) ∙ c4 .enum-told .given .1) (sym (c3 .name .ensures) ∙ c .before .enum-told2 .given .1) (c .start .ensures)
 
 prop-named-requires-2 : tie.Need-prop-named-requires-2
-prop-named-requires-2 c κs = (c .before .before .before .before .before .before .before .before .before .before .before .before .pre, (sym (c .before .before .before .before .before .before .before .before .at .ensures) ∙ c .before .before .before .before .before .before .enum-told .given .1, sym (c .before .before .before .before .before .name .ensures) ∙ c .before .before .before .a2 .given .1))
+prop-named-requires-2 c κs =
+    let c3 = c .before .before .before in
+    let c5 = c3 .before .before in
+    let c6 = c5 .before in
+    let c8 = c6 .before .before in
+    let c12 = c8 .before .before .before .before in
+    (c12 .pre, (sym (c8 .at .ensures) ∙ c6 .enum-told .given .1, sym (c5 .name .ensures) ∙ c3 .a2 .given .1))
 
 same-length : tie.Need-same-length
 same-length c = search needs

@@ -24,15 +24,24 @@ enum-known-u : tie.Need-enum-known-u
 enum-known-u c = search needs
 
 parse-parts-requires : tie.Need-parse-parts-requires
-parse-parts-requires c κs = let o = c .before .before .before .before .before .before .before .before .before in ready-step (o .pre) (eat-onward _ "=" _ _ _ (omega arith) (o .pre .lies) (c .before .before .before .before .before .eat-punctuation .ensures) (c .before .before .before .u .given .1))
+parse-parts-requires c κs =
+    let c3 = c .before .before .before in
+    let c5 = c3 .before .before in
+    let c9 = c5 .before .before .before .before in
+    let o = c9 in ready-step (o .pre) (eat-onward _ "=" _ _ _ (omega arith) (o .pre .lies) (c5 .eat-punctuation .ensures) (c3 .u .given .1))
 
 returns : tie.Need-returns
 unfolding parseValue
-returns c = optional-refused "=" _ (nodesOf partBranch) _ _ (c .before .before .before .before .before .before .before .pre .lies) (omega arith) _ (c .before .before .before .eat-punctuation .ensures) (c .before .cause .given .1)
+returns c =
+    let c3 = c .before .before .before in
+    let c7 = c3 .before .before .before .before in
+    optional-refused "=" _ (nodesOf partBranch) _ _ (c7 .pre .lies) (omega arith) _ (c3 .eat-punctuation .ensures) (c .before .cause .given .1)
 
 returns-2 : tie.Need-returns-2
 unfolding parseValue
-returns-2 c = optional-none "=" _ (nodesOf partBranch) _ _ (c .before .before .before .before .before .before .pre .lies) (omega arith) _ (c .before .before .eat-punctuation .ensures) _ (c .enum-told .given .1)
+returns-2 c =
+    let c6 = c .before .before .before .before .before .before in
+    optional-none "=" _ (nodesOf partBranch) _ _ (c6 .pre .lies) (omega arith) _ (c .before .before .eat-punctuation .ensures) _ (c .enum-told .given .1)
 
 same-length : tie.Need-same-length
 same-length c = search needs
@@ -42,7 +51,12 @@ same-length-2 c = search needs
 
 returns-3 : tie.Need-returns-3
 unfolding parseValue
-returns-3 c = optional-list "=" _ (nodesOf partBranch) _ _ (c .before .before .before .before .before .before .before .before .before .before .before .before .before .before .pre .lies) (omega arith) _ (c .before .before .before .before .before .before .before .before .before .before .eat-punctuation .ensures) (c .before .before .before .before .before .before .before .before .u .given .1) 0 _ _ _ (c .before .before .before .before .parse-parts .result) (c .before .before .before .before .parse-parts .ensures)
+returns-3 c =
+    let c4 = c .before .before .before .before in
+    let c8 = c4 .before .before .before .before in
+    let c10 = c8 .before .before in
+    let c14 = c10 .before .before .before .before in
+    optional-list "=" _ (nodesOf partBranch) _ _ (c14 .pre .lies) (omega arith) _ (c10 .eat-punctuation .ensures) (c8 .u .given .1) 0 _ _ _ (c4 .parse-parts .result) (c4 .parse-parts .ensures)
 
 pub parse-value-spec : {M : Type 1} → statement M
 parse-value-spec =

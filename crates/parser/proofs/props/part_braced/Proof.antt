@@ -25,7 +25,10 @@ place-requires : tie.Need-place-requires
 place-requires c κs = search needs
 
 returns : tie.Need-returns
-returns c = braced-halt _ _ (c .before .before .before .before .before .before .before .before .pre .1) (arrived-not _ _ (c .before .before .before .before .next .ensures .0) (arrived-told (c .before .before .enum-told .given .1) (c .before .cause .ensures) (c .place .ensures)))
+returns c =
+    let c4 = c .before .before .before .before in
+    let c8 = c4 .before .before .before .before in
+    braced-halt _ _ (c8 .pre .1) (arrived-not _ _ (c4 .next .ensures .0) (arrived-told (c .before .before .enum-told .given .1) (c .before .cause .ensures) (c .place .ensures)))
 
 parse-identifier-requires : tie.Need-parse-identifier-requires
 parse-identifier-requires c κs = search needs
@@ -43,7 +46,12 @@ place-requires-2 : tie.Need-place-requires-2
 place-requires-2 c κs = search needs
 
 returns-2 : tie.Need-returns-2
-returns-2 c = braced-name-halt _ _ (c .before .before .before .before .before .before .before .before .before .before .before .before .pre .1) (arrived-at _ _ (c .before .before .before .before .before .before .before .before .next .ensures .0) (c .before .before .before .before .before .before .arrived .given .1)) (taken-not _ _ _ (c .before .before .before .before .parse-identifier .ensures .takes) (taken-told (c .before .before .enum-told2 .given .1) (c .before .cause2 .ensures) (c .place2 .ensures)))
+returns-2 c =
+    let c4 = c .before .before .before .before in
+    let c6 = c4 .before .before in
+    let c8 = c6 .before .before in
+    let c12 = c8 .before .before .before .before in
+    braced-name-halt _ _ (c12 .pre .1) (arrived-at _ _ (c8 .next .ensures .0) (c6 .arrived .given .1)) (taken-not _ _ _ (c4 .parse-identifier .ensures .takes) (taken-told (c .before .before .enum-told2 .given .1) (c .before .cause2 .ensures) (c .place2 .ensures)))
 
 expect-punctuation-requires : tie.Need-expect-punctuation-requires
 expect-punctuation-requires c κs = search needs
@@ -61,22 +69,53 @@ place-requires-3 : tie.Need-place-requires-3
 place-requires-3 c κs = search needs
 
 returns-3 : tie.Need-returns-3
-returns-3 c = braced-unclosed _ _ (c .before .before .before .before .before .before .before .before .before .before .before .before .before .before .before .before .pre .1) (arrived-at _ _ (c .before .before .before .before .before .before .before .before .before .before .before .before .next .ensures .0) (c .before .before .before .before .before .before .before .before .before .before .arrived .given .1)) (taken-at _ _ _ (c .before .before .before .before .before .before .before .before .parse-identifier .ensures .takes) (c .before .before .before .before .before .before .taken .given .1)) (arrived-not _ _ (c .before .before .before .before .expect-punctuation .ensures .expects "}" refl) (arrived-told (c .before .before .enum-told3 .given .1) (c .before .cause3 .ensures) (c .place3 .ensures)))
+returns-3 c =
+    let c4 = c .before .before .before .before in
+    let c6 = c4 .before .before in
+    let c8 = c6 .before .before in
+    let c10 = c8 .before .before in
+    let c12 = c10 .before .before in
+    let c16 = c12 .before .before .before .before in
+    braced-unclosed _ _ (c16 .pre .1) (arrived-at _ _ (c12 .next .ensures .0) (c10 .arrived .given .1)) (taken-at _ _ _ (c8 .parse-identifier .ensures .takes) (c6 .taken .given .1)) (arrived-not _ _ (c4 .expect-punctuation .ensures .expects "}" refl) (arrived-told (c .before .before .enum-told3 .given .1) (c .before .cause3 .ensures) (c .place3 .ensures)))
 
 sub-put-named : tie.Need-sub-put-named
-sub-put-named c = let o = c .before .before .before .before .before .before .before .before .before .before .before .before .before .before .before in braced-name _ _ (o .pre .1) (o .pre .0) _ (c .before .before .before .before .before .before .before .before .before .before .before .next .ensures) (c .before .before .before .before .before .before .before .before .before .arrived .given .1) _ (c .before .before .before .before .before .before .before .parse-identifier .ensures) (c .before .before .before .before .before .taken .given .1) .1 .part .forth
+sub-put-named c =
+    let c5 = c .before .before .before .before .before in
+    let c7 = c5 .before .before in
+    let c9 = c7 .before .before in
+    let c11 = c9 .before .before in
+    let c15 = c11 .before .before .before .before in
+    let o = c15 in braced-name _ _ (o .pre .1) (o .pre .0) _ (c11 .next .ensures) (c9 .arrived .given .1) _ (c7 .parse-identifier .ensures) (c5 .taken .given .1) .1 .part .forth
 
 part-put-named-start : tie.Need-part-put-named-start
-part-put-named-start c = let o = c .before .before .before .before .before .before .before .before .before .before .before .before .before .before .before in braced-name _ _ (o .pre .1) (o .pre .0) _ (c .before .before .before .before .before .before .before .before .before .before .before .next .ensures) (c .before .before .before .before .before .before .before .before .before .arrived .given .1) _ (c .before .before .before .before .before .before .before .parse-identifier .ensures) (c .before .before .before .before .before .taken .given .1) .1 .part .forth
+part-put-named-start c =
+    let c5 = c .before .before .before .before .before in
+    let c7 = c5 .before .before in
+    let c9 = c7 .before .before in
+    let c11 = c9 .before .before in
+    let c15 = c11 .before .before .before .before in
+    let o = c15 in braced-name _ _ (o .pre .1) (o .pre .0) _ (c11 .next .ensures) (c9 .arrived .given .1) _ (c7 .parse-identifier .ensures) (c5 .taken .given .1) .1 .part .forth
 
 part-put-named-end : tie.Need-part-put-named-end
-part-put-named-end c = let o = c .before .before .before .before .before .before .before .before .before .before .before .before .before .before .before in braced-name _ _ (o .pre .1) (o .pre .0) _ (c .before .before .before .before .before .before .before .before .before .before .before .next .ensures) (c .before .before .before .before .before .before .before .before .before .arrived .given .1) _ (c .before .before .before .before .before .before .before .parse-identifier .ensures) (c .before .before .before .before .before .taken .given .1) .1 .part .inside
+part-put-named-end c =
+    let c5 = c .before .before .before .before .before in
+    let c7 = c5 .before .before in
+    let c9 = c7 .before .before in
+    let c11 = c9 .before .before in
+    let c15 = c11 .before .before .before .before in
+    let o = c15 in braced-name _ _ (o .pre .1) (o .pre .0) _ (c11 .next .ensures) (c9 .arrived .given .1) _ (c7 .parse-identifier .ensures) (c5 .taken .given .1) .1 .part .inside
 
 start-requires : tie.Need-start-requires
 start-requires c κs = search needs
 
 put-named-requires : tie.Need-put-named-requires
-put-named-requires c κs = let o = c .before .before .before .before .before .before .before .before .before .before .before .before .before .before .before .before .before .before .before in put-asks (o .pre .0) (o .pre .0) (c .before .before .start .ensures) (omega arith) (part-short _ (braced-name _ _ (o .pre .1) (o .pre .0) _ (c .before .before .before .before .before .before .before .before .before .before .before .before .before .before .before .next .ensures) (c .before .before .before .before .before .before .before .before .before .before .before .before .before .arrived .given .1) _ (c .before .before .before .before .before .before .before .before .before .before .before .parse-identifier .ensures) (c .before .before .before .before .before .before .before .before .before .taken .given .1) .1 .part))
+put-named-requires c κs =
+    let c9 = c .before .before .before .before .before .before .before .before .before in
+    let c11 = c9 .before .before in
+    let c13 = c11 .before .before in
+    let c15 = c13 .before .before in
+    let c19 = c15 .before .before .before .before in
+    let o = c19 in put-asks (o .pre .0) (o .pre .0) (c .before .before .start .ensures) (omega arith) (part-short _ (braced-name _ _ (o .pre .1) (o .pre .0) _ (c15 .next .ensures) (c13 .arrived .given .1) _ (c11 .parse-identifier .ensures) (c9 .taken .given .1) .1 .part))
 
 same-length : tie.Need-same-length
 same-length c = search needs
@@ -85,7 +124,17 @@ same-length-2 : tie.Need-same-length-2
 same-length-2 c = search needs
 
 returns-4 : tie.Need-returns-4
-returns-4 c = let o = c .before .before .before .before .before .before .before .before .before .before .before .before .before .before .before .before .before .before .before .before .before .before .before .before in braced-found _ _ (o .pre .1) (o .pre .0) _ (c .before .before .before .before .before .before .before .before .before .before .before .before .before .before .before .before .before .before .before .before .next .ensures) (c .before .before .before .before .before .before .before .before .before .before .before .before .before .before .before .before .before .before .arrived .given .1) _ (c .before .before .before .before .before .before .before .before .before .before .before .before .before .before .before .before .parse-identifier .ensures) (c .before .before .before .before .before .before .before .before .before .before .before .before .before .before .taken .given .1) _ (c .before .before .before .before .before .before .before .before .before .before .before .before .expect-punctuation .ensures) (c .before .before .before .before .before .before .before .before .before .before .closed .given .1) (c .before .before .before .before .before .before .before .start .ensures) (c .before .before .before .before .put-named .ensures)
+returns-4 c =
+    let c4 = c .before .before .before .before in
+    let c7 = c4 .before .before .before in
+    let c10 = c7 .before .before .before in
+    let c12 = c10 .before .before in
+    let c14 = c12 .before .before in
+    let c16 = c14 .before .before in
+    let c18 = c16 .before .before in
+    let c20 = c18 .before .before in
+    let c24 = c20 .before .before .before .before in
+    let o = c24 in braced-found _ _ (o .pre .1) (o .pre .0) _ (c20 .next .ensures) (c18 .arrived .given .1) _ (c16 .parse-identifier .ensures) (c14 .taken .given .1) _ (c12 .expect-punctuation .ensures) (c10 .closed .given .1) (c7 .start .ensures) (c4 .put-named .ensures)
 
 pub part-braced-spec : {M : Type 1} → statement M
 part-braced-spec =

@@ -24,7 +24,10 @@ place-requires : tie.Need-place-requires
 place-requires c κs = search needs
 
 returns : tie.Need-returns
-returns c = let o = c .before .before .before .before .before .before .before .before in string-refused _ _ (o .pre .0) (o .pre .1) _ (c .before .before .before .before .next .ensures) (arrived-told (c .before .before .enum-told .given .1) (c .before .cause .ensures) (c .place .ensures))
+returns c =
+    let c4 = c .before .before .before .before in
+    let c8 = c4 .before .before .before .before in
+    let o = c8 in string-refused _ _ (o .pre .0) (o .pre .1) _ (c4 .next .ensures) (arrived-told (c .before .before .enum-told .given .1) (c .before .cause .ensures) (c .place .ensures))
 
 sub-put-string : tie.Need-sub-put-string
 sub-put-string c = let o = c .before .before .before .before .before .before .before in string-in (o .pre .0) (o .pre .1) .part .forth
@@ -39,7 +42,9 @@ start-requires : tie.Need-start-requires
 start-requires c κs = search needs
 
 put-string-requires : tie.Need-put-string-requires
-put-string-requires c κs = let o = c .before .before .before .before .before .before .before .before .before .before .before in put-asks (o .pre .0) (o .pre .0) (c .before .before .start .ensures) (omega arith) (part-short _ (string-in (o .pre .0) (o .pre .1) .part))
+put-string-requires c κs =
+    let c11 = c .before .before .before .before .before .before .before .before .before .before .before in
+    let o = c11 in put-asks (o .pre .0) (o .pre .0) (c .before .before .start .ensures) (omega arith) (part-short _ (string-in (o .pre .0) (o .pre .1) .part))
 
 same-length : tie.Need-same-length
 same-length c = search needs
@@ -48,7 +53,13 @@ same-length-2 : tie.Need-same-length-2
 same-length-2 c = search needs
 
 returns-2 : tie.Need-returns-2
-returns-2 c = let o = c .before .before .before .before .before .before .before .before .before .before .before .before .before .before .before .before in string-found _ _ (o .pre .0) (o .pre .1) _ (c .before .before .before .before .before .before .before .before .before .before .before .before .next .ensures) (c .before .before .before .before .before .before .before .before .before .before .arrived .given .1) (c .before .before .before .before .before .before .before .start .ensures) (c .before .before .before .before .put-string .ensures)
+returns-2 c =
+    let c4 = c .before .before .before .before in
+    let c7 = c4 .before .before .before in
+    let c10 = c7 .before .before .before in
+    let c12 = c10 .before .before in
+    let c16 = c12 .before .before .before .before in
+    let o = c16 in string-found _ _ (o .pre .0) (o .pre .1) _ (c12 .next .ensures) (c10 .arrived .given .1) (c7 .start .ensures) (c4 .put-string .ensures)
 
 pub part-string-spec : {M : Type 1} → statement M
 part-string-spec =

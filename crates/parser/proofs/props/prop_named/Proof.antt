@@ -27,10 +27,17 @@ place-requires : tie.Need-place-requires
 place-requires c κs = search needs
 
 returns : tie.Need-returns
-returns c = let o = c .before .before .before .before .before .before .before .before in prop-halt _ _ (o .args .at) (o .args .a) (o .args .e) (o .pre .1) (arrived-not _ _ (c .before .before .before .before .next .ensures .0) (arrived-told (c .before .before .enum-told .given .1) (c .before .cause .ensures) (c .place .ensures)))
+returns c =
+    let c4 = c .before .before .before .before in
+    let c8 = c4 .before .before .before .before in
+    let o = c8 in prop-halt _ _ (o .args .at) (o .args .a) (o .args .e) (o .pre .1) (arrived-not _ _ (c4 .next .ensures .0) (arrived-told (c .before .before .enum-told .given .1) (c .before .cause .ensures) (c .place .ensures)))
 
 parse-value-requires : tie.Need-parse-value-requires
-parse-value-requires c κs = let o = c .before .before .before .before .before .before .before .before .before in ready-step (o .pre .0) (prop-next _ _ (o .args .at) (o .args .a) (o .args .e) (o .pre .1) (o .pre .0) _ (c .before .before .before .before .before .next .ensures) (c .before .before .before .arrived .given .1))
+parse-value-requires c κs =
+    let c3 = c .before .before .before in
+    let c5 = c3 .before .before in
+    let c9 = c5 .before .before .before .before in
+    let o = c9 in ready-step (o .pre .0) (prop-next _ _ (o .args .at) (o .args .a) (o .args .e) (o .pre .1) (o .pre .0) _ (c5 .next .ensures) (c3 .arrived .given .1))
 
 enum-known-listed : tie.Need-enum-known-listed
 enum-known-listed c = search needs
@@ -51,22 +58,39 @@ same-length-2 : tie.Need-same-length-2
 same-length-2 c = search needs
 
 returns-2 : tie.Need-returns-2
-returns-2 c = let o = c .before .before .before .before .before .before .before .before .before .before .before .before .before .before .before .before .before .before in prop-value-halt _ _ (o .args .at) (o .args .a) (o .args .e) (o .pre .1) (arrived-at _ _ (c .before .before .before .before .before .before .before .before .before .before .before .before .before .before .next .ensures .0) (c .before .before .before .before .before .before .before .before .before .before .before .before .arrived .given .1)) (listed-not _ _ _ _ _ _ _ _ _ (c .before .before .before .before .before .before .before .before .parse-value .ensures) (listed-told (c .before .before .enum-told2 .given .1) (c .before .cause2 .ensures) (c .place2 .ensures)))
+returns-2 c =
+    let c8 = c .before .before .before .before .before .before .before .before in
+    let c12 = c8 .before .before .before .before in
+    let c14 = c12 .before .before in
+    let c18 = c14 .before .before .before .before in
+    let o = c18 in prop-value-halt _ _ (o .args .at) (o .args .a) (o .args .e) (o .pre .1) (arrived-at _ _ (c14 .next .ensures .0) (c12 .arrived .given .1)) (listed-not _ _ _ _ _ _ _ _ _ (c8 .parse-value .ensures) (listed-told (c .before .before .enum-told2 .given .1) (c .before .cause2 .ensures) (c .place2 .ensures)))
 
 sub-put-named : tie.Need-sub-put-named
-sub-put-named c = let o = c .before .before .before .before .before .before .before .before .before .before .before .before .before .before .before .before .before in prop-held _ _ (o .args .at) (o .args .a) (o .args .e) (o .pre .0) (o .pre .1) .part .forth
+sub-put-named c =
+    let c17 = c .before .before .before .before .before .before .before .before .before .before .before .before .before .before .before .before .before in
+    let o = c17 in prop-held _ _ (o .args .at) (o .args .a) (o .args .e) (o .pre .0) (o .pre .1) .part .forth
 
 part-put-named-start : tie.Need-part-put-named-start
-part-put-named-start c = let o = c .before .before .before .before .before .before .before .before .before .before .before .before .before .before .before .before .before in prop-held _ _ (o .args .at) (o .args .a) (o .args .e) (o .pre .0) (o .pre .1) .part .forth
+part-put-named-start c =
+    let c17 = c .before .before .before .before .before .before .before .before .before .before .before .before .before .before .before .before .before in
+    let o = c17 in prop-held _ _ (o .args .at) (o .args .a) (o .args .e) (o .pre .0) (o .pre .1) .part .forth
 
 part-put-named-end : tie.Need-part-put-named-end
-part-put-named-end c = let o = c .before .before .before .before .before .before .before .before .before .before .before .before .before .before .before .before .before in prop-held _ _ (o .args .at) (o .args .a) (o .args .e) (o .pre .0) (o .pre .1) .part .inside
+part-put-named-end c =
+    let c17 = c .before .before .before .before .before .before .before .before .before .before .before .before .before .before .before .before .before in
+    let o = c17 in prop-held _ _ (o .args .at) (o .args .a) (o .args .e) (o .pre .0) (o .pre .1) .part .inside
 
 start-requires : tie.Need-start-requires
 start-requires c κs = search needs
 
 put-named-requires : tie.Need-put-named-requires
-put-named-requires c κs = let o = c .before .before .before .before .before .before .before .before .before .before .before .before .before .before .before .before .before .before .before .before .before in let l = (listed _ _ _ _ _ _ _ _ _ (c .before .before .before .before .before .before .before .before .before .before .before .parse-value .ensures) (c .before .before .before .before .before .listed .given .1)) in put-asks (o .pre .0) (ready-on (ready-step (o .pre .0) (prop-next _ _ (o .args .at) (o .args .a) (o .args .e) (o .pre .1) (o .pre .0) _ (c .before .before .before .before .before .before .before .before .before .before .before .before .before .before .before .before .before .next .ensures) (c .before .before .before .before .before .before .before .before .before .before .before .before .before .before .before .arrived .given .1))) (l .onward) (l .lays)) (c .before .before .start .ensures) (omega (arith, lists-small partBranch l (o .pre .0 .small))) (part-short _ (prop-held _ _ (o .args .at) (o .args .a) (o .args .e) (o .pre .0) (o .pre .1) .part))
+put-named-requires c κs =
+    let c5 = c .before .before .before .before .before in
+    let c11 = c5 .before .before .before .before .before .before in
+    let c15 = c11 .before .before .before .before in
+    let c17 = c15 .before .before in
+    let c21 = c17 .before .before .before .before in
+    let o = c21 in let l = (listed _ _ _ _ _ _ _ _ _ (c11 .parse-value .ensures) (c5 .listed .given .1)) in put-asks (o .pre .0) (ready-on (ready-step (o .pre .0) (prop-next _ _ (o .args .at) (o .args .a) (o .args .e) (o .pre .1) (o .pre .0) _ (c17 .next .ensures) (c15 .arrived .given .1))) (l .onward) (l .lays)) (c .before .before .start .ensures) (omega (arith, lists-small partBranch l (o .pre .0 .small))) (part-short _ (prop-held _ _ (o .args .at) (o .args .a) (o .args .e) (o .pre .0) (o .pre .1) .part))
 
 same-length-3 : tie.Need-same-length-3
 same-length-3 c = search needs
@@ -75,7 +99,15 @@ same-length-4 : tie.Need-same-length-4
 same-length-4 c = search needs
 
 returns-3 : tie.Need-returns-3
-returns-3 c = let o = c .before .before .before .before .before .before .before .before .before .before .before .before .before .before .before .before .before .before .before .before .before .before .before .before .before .before in prop-given _ _ (o .args .at) (o .args .a) (o .args .e) (o .pre .1) (o .pre .0) _ (c .before .before .before .before .before .before .before .before .before .before .before .before .before .before .before .before .before .before .before .before .before .before .next .ensures) (c .before .before .before .before .before .before .before .before .before .before .before .before .before .before .before .before .before .before .before .before .arrived .given .1) (listed _ _ _ _ _ _ _ _ _ (c .before .before .before .before .before .before .before .before .before .before .before .before .before .before .before .before .parse-value .ensures) (c .before .before .before .before .before .before .before .before .before .before .listed .given .1)) (c .before .before .before .before .before .before .before .start .ensures) (c .before .before .before .before .put-named .ensures)
+returns-3 c =
+    let c4 = c .before .before .before .before in
+    let c7 = c4 .before .before .before in
+    let c10 = c7 .before .before .before in
+    let c16 = c10 .before .before .before .before .before .before in
+    let c20 = c16 .before .before .before .before in
+    let c22 = c20 .before .before in
+    let c26 = c22 .before .before .before .before in
+    let o = c26 in prop-given _ _ (o .args .at) (o .args .a) (o .args .e) (o .pre .1) (o .pre .0) _ (c22 .next .ensures) (c20 .arrived .given .1) (listed _ _ _ _ _ _ _ _ _ (c16 .parse-value .ensures) (c10 .listed .given .1)) (c7 .start .ensures) (c4 .put-named .ensures)
 
 pub prop-named-spec : {M : Type 1} → statement M
 prop-named-spec =

@@ -56,7 +56,12 @@ enum-known-u-2 : tie.Need-enum-known-u-2 Inv-loop μ-loop
 enum-known-u-2 c = search needs
 
 parse-prop-requires : tie.Need-parse-prop-requires Inv-loop μ-loop
-parse-prop-requires c κs = ready-step (ready-on (c .before .before .before .before .before .before .before .before .before .before .pre) (c .before .before .before .before .before .before .loop .inv .onward) (c .before .before .before .before .before .before .loop .inv .lays)) (item-onward "]" (c .before .before .before .before .before .opening .ensures) (c .before .before .before .u2 .given .1))
+parse-prop-requires c κs =
+    let c3 = c .before .before .before in
+    let c5 = c3 .before .before in
+    let c6 = c5 .before in
+    let c10 = c6 .before .before .before .before in
+    ready-step (ready-on (c10 .pre) (c6 .loop .inv .onward) (c6 .loop .inv .lays)) (item-onward "]" (c5 .opening .ensures) (c3 .u2 .given .1))
 
 enum-known-parsed : tie.Need-enum-known-parsed Inv-loop μ-loop
 enum-known-parsed c = search needs
@@ -77,16 +82,34 @@ same-length-6 : tie.Need-same-length-6 Inv-loop μ-loop
 same-length-6 c = omega (arith, c .before .before .before .before .before .before .before .before .before .before .before .before .before .before .before .loop .inv .lays .stores .same-texts)
 
 returns-3 : tie.Need-returns-3 Inv-loop μ-loop
-returns-3 c = item-refused "]" Must (λ _. parseProp) (c .before .before .before .before .before .before .before .before .before .before .before .before .before .before .before .loop .inv) _ (c .before .before .before .before .before .before .before .before .before .before .before .before .before .before .opening .ensures) (c .before .before .before .before .before .before .before .before .before .before .before .before .u2 .given .1) _ refl _ _ _ (c .before .before .before .before .before .before .before .before .parse-prop .ensures) (parsed-told (c .before .before .enum-told .given .1) (c .before .cause2 .ensures) (c .place .ensures))
+returns-3 c =
+    let c8 = c .before .before .before .before .before .before .before .before in
+    let c12 = c8 .before .before .before .before in
+    let c14 = c12 .before .before in
+    let c15 = c14 .before in
+    item-refused "]" Must (λ _. parseProp) (c15 .loop .inv) _ (c14 .opening .ensures) (c12 .u2 .given .1) _ refl _ _ _ (c8 .parse-prop .ensures) (parsed-told (c .before .before .enum-told .given .1) (c .before .cause2 .ensures) (c .place .ensures))
 
 add-count : tie.Need-add-count Inv-loop μ-loop
-add-count c = omega (arith, listing-small propBranch (c .before .before .before .before .before .before .before .before .before .before .before .before .before .before .loop .inv) (c .before .before .before .before .before .before .before .before .before .before .before .before .before .before .before .before .before .before .pre .small) (omega arith))
+add-count c =
+    let c14 = c .before .before .before .before .before .before .before .before .before .before .before .before .before .before in
+    let c18 = c14 .before .before .before .before in
+    omega (arith, listing-small propBranch (c14 .loop .inv) (c18 .pre .small) (omega arith))
 
 loop-less : tie.Need-loop-less Inv-loop μ-loop
-loop-less c = omega (arith, item-more "]" Must (λ _. parseProp) (c .before .before .before .before .before .before .before .before .before .before .before .before .before .before .loop .inv) _ (c .before .before .before .before .before .before .before .before .before .before .before .before .before .opening .ensures) (c .before .before .before .before .before .before .before .before .before .before .before .u2 .given .1) _ refl _ _ _ (c .before .before .before .before .before .before .before .parse-prop .ensures) (c .before .parsed .given .1) .0 .fewer)
+loop-less c =
+    let c7 = c .before .before .before .before .before .before .before in
+    let c11 = c7 .before .before .before .before in
+    let c13 = c11 .before .before in
+    let c14 = c13 .before in
+    omega (arith, item-more "]" Must (λ _. parseProp) (c14 .loop .inv) _ (c13 .opening .ensures) (c11 .u2 .given .1) _ refl _ _ _ (c7 .parse-prop .ensures) (c .before .parsed .given .1) .0 .fewer)
 
 loop-again : tie.Need-loop-again Inv-loop μ-loop
-loop-again c = item-more "]" Must (λ _. parseProp) (c .before .before .before .before .before .before .before .before .before .before .before .before .before .before .loop .inv) _ (c .before .before .before .before .before .before .before .before .before .before .before .before .before .opening .ensures) (c .before .before .before .before .before .before .before .before .before .before .before .u2 .given .1) _ refl _ _ _ (c .before .before .before .before .before .before .before .parse-prop .ensures) (c .before .parsed .given .1) .1
+loop-again c =
+    let c7 = c .before .before .before .before .before .before .before in
+    let c11 = c7 .before .before .before .before in
+    let c13 = c11 .before .before in
+    let c14 = c13 .before in
+    item-more "]" Must (λ _. parseProp) (c14 .loop .inv) _ (c13 .opening .ensures) (c11 .u2 .given .1) _ refl _ _ _ (c7 .parse-prop .ensures) (c .before .parsed .given .1) .1
 
 pub props-list-spec : {M : Type 1} → statement M
 props-list-spec =

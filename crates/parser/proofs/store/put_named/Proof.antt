@@ -21,7 +21,10 @@ same-length-2 : tie.Need-same-length-2
 same-length-2 c = search needs
 
 returns : tie.Need-returns
-returns c = stores-one _ _ _ _ _ _ _ _ _ _ _ _ _ (c .before .before .before .before .before .before .put-text .ensures .0) (c .before .before .put-record .ensures) (c .before .before .before .before .before .texts .given) (λ h. c .before .before .before .before .before .before .put-text .ensures .1)
+returns c =
+    let c5 = c .before .before .before .before .before in
+    let c6 = c5 .before in
+    stores-one _ _ _ _ _ _ _ _ _ _ _ _ _ (c6 .put-text .ensures .0) (c .before .before .put-record .ensures) (c5 .texts .given) (λ h. c6 .put-text .ensures .1)
 
 pub put-named-spec : {M : Type 1} → statement M
 put-named-spec =

@@ -42,7 +42,10 @@ same-length-3 : tie.Need-same-length-3
 same-length-3 c = search needs
 
 returns-3 : tie.Need-returns-3
-returns-3 c = set-stores _ _ _ _ _ _ _ (subst (Checks _) (c .before .before .before .before .before .count .given .1) (c .before .before .before .before .before .before .before .before .before .read-spans .ensures .0)) (c .before .before .before .before .before .before .before .before .before .read-spans .ensures .1) (c .before .before .spread .ensures)
+returns-3 c =
+    let c5 = c .before .before .before .before .before in
+    let c9 = c5 .before .before .before .before in
+    set-stores _ _ _ _ _ _ _ (subst (Checks _) (c5 .count .given .1) (c9 .read-spans .ensures .0)) (c9 .read-spans .ensures .1) (c .before .before .spread .ensures)
 
 pub put-spans-spec : {M : Type 1} → statement M
 put-spans-spec =

@@ -22,7 +22,10 @@ same-length-2 : tie.Need-same-length-2
 same-length-2 c = search needs
 
 returns : tie.Need-returns
-returns c = (stores-one _ _ _ _ _ _ _ _ _ _ _ _ _ (c .before .before .before .before .before .before .put-value .ensures .0) (c .before .before .put-record .ensures) (c .before .before .before .before .before .texts .given) (c .before .before .before .before .before .before .put-value .ensures .2), omega arith)
+returns c =
+    let c5 = c .before .before .before .before .before in
+    let c6 = c5 .before in
+    (stores-one _ _ _ _ _ _ _ _ _ _ _ _ _ (c6 .put-value .ensures .0) (c .before .before .put-record .ensures) (c5 .texts .given) (c6 .put-value .ensures .2), omega arith)
 
 pub put-string-spec : {M : Type 1} → statement M
 put-string-spec =

@@ -69,7 +69,9 @@ loop-less : tie.Need-loop-less Inv-loop μ-loop
 loop-less c = search needs
 
 loop-again : tie.Need-loop-again Inv-loop μ-loop
-loop-again c = (c .before .before .before .before .before .before .before .loop .inv .0, spread-on _ _ _ _ (c .before .before .before .before .before .before .before .loop .inv .0) _ _ _ (c .before .before .before .before .before .before .before .loop .inv .1) (omega arith) _ (c .before .before .put-span .ensures))
+loop-again c =
+    let c7 = c .before .before .before .before .before .before .before in
+    (c7 .loop .inv .0, spread-on _ _ _ _ (c7 .loop .inv .0) _ _ _ (c7 .loop .inv .1) (omega arith) _ (c .before .before .put-span .ensures))
 
 same-length : tie.Need-same-length Inv-loop μ-loop
 same-length c = c .before .loop .inv .1 .size

@@ -18,48 +18,52 @@ module _ (t : ℕ) where
   abbrev claims : lts.Claims
   claims = (eat-punctuation-reads.Asked, eat-punctuation-reads.Learnt, list-below t, list.Post)
 
-  -- src/expressions.rt:299:11
   eat-punctuation-requires : lts.Need-eat-punctuation-requires claims (arguments-at t) arguments.Post
   eat-punctuation-requires c κs = search needs
 
-  -- src/expressions.rt:300:24
   enum-known-cause : lts.Need-enum-known-cause claims (arguments-at t) arguments.Post
   enum-known-cause c = search needs
 
-  -- src/expressions.rt:301:22
   enum-told : lts.Need-enum-told claims (arguments-at t) arguments.Post
   enum-told c = search needs
 
-  -- src/expressions.rt:302:20
   enum-known-u : lts.Need-enum-known-u claims (arguments-at t) arguments.Post
   enum-known-u c = search needs
 
-  -- src/expressions.rt:302:26
   list-requires : lts.Need-list-requires claims (arguments-at t) arguments.Post
-  list-requires c κs = let o = eat-onward _ "<" _ _ _ (omega arith) (c .before .before .before .before .before .before .before .before .before .pre .1 .lies) (c .before .before .before .before .before .eat-punctuation .ensures) (c .before .before .before .u .given .1) in (falls-past 11 21 o (c .before .before .before .before .before .before .before .before .before .pre .0) (omega arith), ready-step (c .before .before .before .before .before .before .before .before .before .pre .1) o)
+  list-requires c κs =
+      let c3 = c .before .before .before in
+      let c5 = c3 .before .before in
+      let c9 = c5 .before .before .before .before in
+      let o = eat-onward _ "<" _ _ _ (omega arith) (c9 .pre .1 .lies) (c5 .eat-punctuation .ensures) (c3 .u .given .1) in (falls-past 11 21 o (c9 .pre .0) (omega arith), ready-step (c9 .pre .1) o)
 
-  -- src/expressions.rt:294:1
   returns : lts.Need-returns claims (arguments-at t) arguments.Post
   unfolding parseArguments
-  returns c = optional-refused "<" _ (nodesOf expressionBranch) _ _ (c .before .before .before .before .before .before .before .pre .1 .lies) (omega arith) _ (c .before .before .before .eat-punctuation .ensures) (c .before .cause .given .1)
+  returns c =
+      let c3 = c .before .before .before in
+      let c7 = c3 .before .before .before .before in
+      optional-refused "<" _ (nodesOf expressionBranch) _ _ (c7 .pre .1 .lies) (omega arith) _ (c3 .eat-punctuation .ensures) (c .before .cause .given .1)
 
-  -- src/expressions.rt:294:1
   returns-2 : lts.Need-returns-2 claims (arguments-at t) arguments.Post
   unfolding parseArguments
-  returns-2 c = optional-none "<" _ (nodesOf expressionBranch) _ _ (c .before .before .before .before .before .before .pre .1 .lies) (omega arith) _ (c .before .before .eat-punctuation .ensures) _ (c .enum-told .given .1)
+  returns-2 c =
+      let c6 = c .before .before .before .before .before .before in
+      optional-none "<" _ (nodesOf expressionBranch) _ _ (c6 .pre .1 .lies) (omega arith) _ (c .before .before .eat-punctuation .ensures) _ (c .enum-told .given .1)
 
-  -- src/expressions.rt:294:1
   same-length : lts.Need-same-length claims (arguments-at t) arguments.Post
   same-length c = search needs
 
-  -- src/expressions.rt:294:1
   same-length-2 : lts.Need-same-length-2 claims (arguments-at t) arguments.Post
   same-length-2 c = search needs
 
-  -- src/expressions.rt:294:1
   returns-3 : lts.Need-returns-3 claims (arguments-at t) arguments.Post
   unfolding parseArguments
-  returns-3 c = optional-list "<" _ (nodesOf expressionBranch) _ _ (c .before .before .before .before .before .before .before .before .before .before .before .before .before .before .pre .1 .lies) (omega arith) _ (c .before .before .before .before .before .before .before .before .before .before .eat-punctuation .ensures) (c .before .before .before .before .before .before .before .before .u .given .1) 1 _ _ _ (c .before .before .before .before .list .result) (c .before .before .before .before .list .ensures)
+  returns-3 c =
+      let c4 = c .before .before .before .before in
+      let c8 = c4 .before .before .before .before in
+      let c10 = c8 .before .before in
+      let c14 = c10 .before .before .before .before in
+      optional-list "<" _ (nodesOf expressionBranch) _ _ (c14 .pre .1 .lies) (omega arith) _ (c10 .eat-punctuation .ensures) (c8 .u .given .1) 1 _ _ _ (c4 .list .result) (c4 .list .ensures)
 
   pub met : {M : Type 1} → lts.Closed claims (arguments-at t) arguments.Post M
   met = lts.spec claims (arguments-at t) arguments.Post eat-punctuation-requires enum-known-cause enum-told enum-known-u list-requires returns returns-2 same-length same-length-2 returns-3

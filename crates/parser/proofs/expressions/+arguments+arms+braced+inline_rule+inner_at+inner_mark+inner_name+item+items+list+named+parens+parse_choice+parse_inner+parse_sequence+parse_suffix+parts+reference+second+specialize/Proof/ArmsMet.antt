@@ -65,7 +65,12 @@ module _ (t : ℕ) where
   enum-known-u c = search needs
 
   parse-sequence-requires : lts.Need-parse-sequence-requires claims (arms-at t) arms.Post Inv-loop μ-loop
-  parse-sequence-requires c κs = let o = eat-onward _ "|" _ _ _ (omega arith) (c .before .before .before .before .before .before .loop .inv .listing .onward .lies) (c .before .before .before .before .before .eat-punctuation .ensures) (c .before .before .before .u .given .1) in (falls-past 19 18 (onward-then (c .before .before .before .before .before .before .loop .inv .listing .onward) o) (c .before .before .before .before .before .before .before .before .before .before .pre .0) (omega arith), arm-ready (c .before .before .before .before .before .before .loop .inv) (c .before .before .before .before .before .before .before .before .before .before .pre .1) refl refl o)
+  parse-sequence-requires c κs =
+      let c3 = c .before .before .before in
+      let c5 = c3 .before .before in
+      let c6 = c5 .before in
+      let c10 = c6 .before .before .before .before in
+      let o = eat-onward _ "|" _ _ _ (omega arith) (c6 .loop .inv .listing .onward .lies) (c5 .eat-punctuation .ensures) (c3 .u .given .1) in (falls-past 19 18 (onward-then (c6 .loop .inv .listing .onward) o) (c10 .pre .0) (omega arith), arm-ready (c6 .loop .inv) (c10 .pre .1) refl refl o)
 
   enum-known-arm : lts.Need-enum-known-arm claims (arms-at t) arms.Post Inv-loop μ-loop
   enum-known-arm c = search needs
@@ -80,25 +85,47 @@ module _ (t : ℕ) where
   place-requires c κs = search needs
 
   same-length-5 : lts.Need-same-length-5 claims (arms-at t) arms.Post Inv-loop μ-loop
-  same-length-5 c = omega (arith, c .before .before .before .before .before .before .before .before .before .before .before .before .before .before .before .loop .inv .listing .lays .stores .same-words)
+  same-length-5 c =
+      let c15 = c .before .before .before .before .before .before .before .before .before .before .before .before .before .before .before in
+      omega (arith, c15 .loop .inv .listing .lays .stores .same-words)
 
   same-length-6 : lts.Need-same-length-6 claims (arms-at t) arms.Post Inv-loop μ-loop
-  same-length-6 c = omega (arith, c .before .before .before .before .before .before .before .before .before .before .before .before .before .before .before .loop .inv .listing .lays .stores .same-texts)
+  same-length-6 c =
+      let c15 = c .before .before .before .before .before .before .before .before .before .before .before .before .before .before .before in
+      omega (arith, c15 .loop .inv .listing .lays .stores .same-texts)
 
   returns-3 : lts.Need-returns-3 claims (arms-at t) arms.Post Inv-loop μ-loop
-  returns-3 c = arming-refused (c .before .before .before .before .before .before .before .before .before .before .before .before .before .before .before .loop .inv) (arm-sequence _ _ _ (eat-yes _ "|" _ _ (c .before .before .before .before .before .before .before .before .before .before .before .before .before .before .eat-punctuation .ensures) (c .before .before .before .before .before .before .before .before .before .before .before .before .u .given .1)) (expressed-not _ _ _ _ _ _ _ _ _ (c .before .before .before .before .before .before .before .before .parse-sequence .ensures) (expressed-told (c .before .before .enum-told2 .given .1) (c .before .cause2 .ensures) (c .place .ensures))))
+  returns-3 c =
+      let c8 = c .before .before .before .before .before .before .before .before in
+      let c12 = c8 .before .before .before .before in
+      let c14 = c12 .before .before in
+      let c15 = c14 .before in
+      arming-refused (c15 .loop .inv) (arm-sequence _ _ _ (eat-yes _ "|" _ _ (c14 .eat-punctuation .ensures) (c12 .u .given .1)) (expressed-not _ _ _ _ _ _ _ _ _ (c8 .parse-sequence .ensures) (expressed-told (c .before .before .enum-told2 .given .1) (c .before .cause2 .ensures) (c .place .ensures))))
 
   add-count : lts.Need-add-count claims (arms-at t) arms.Post Inv-loop μ-loop
-  add-count c = let k = arming-small (c .before .before .before .before .before .before .before .before .before .before .before .before .before .before .loop .inv) (c .before .before .before .before .before .before .before .before .before .before .before .before .before .before .before .before .before .before .pre .1 .small) in omega arith
+  add-count c =
+      let c14 = c .before .before .before .before .before .before .before .before .before .before .before .before .before .before in
+      let c18 = c14 .before .before .before .before in
+      let k = arming-small (c14 .loop .inv) (c18 .pre .1 .small) in omega arith
 
   first-empty-requires : lts.Need-first-empty-requires claims (arms-at t) arms.Post Inv-loop μ-loop
   first-empty-requires c κs = search needs
 
   loop-less : lts.Need-loop-less claims (arms-at t) arms.Post Inv-loop μ-loop
-  loop-less c = let o = eat-onward _ "|" _ _ _ (omega arith) (c .before .before .before .before .before .before .before .before .before .before .before .before .before .before .before .loop .inv .listing .onward .lies) (c .before .before .before .before .before .before .before .before .before .before .before .before .before .before .eat-punctuation .ensures) (c .before .before .before .before .before .before .before .before .before .before .before .before .u .given .1) in let g = expressed _ _ _ _ _ _ _ _ _ (c .before .before .before .before .before .before .before .before .parse-sequence .ensures) (c .before .before .arm .given .1) in let a = o .fewer in let b = g .onward .fewer in omega arith
+  loop-less c =
+      let c8 = c .before .before .before .before .before .before .before .before in
+      let c12 = c8 .before .before .before .before in
+      let c14 = c12 .before .before in
+      let c15 = c14 .before in
+      let o = eat-onward _ "|" _ _ _ (omega arith) (c15 .loop .inv .listing .onward .lies) (c14 .eat-punctuation .ensures) (c12 .u .given .1) in let g = expressed _ _ _ _ _ _ _ _ _ (c8 .parse-sequence .ensures) (c .before .before .arm .given .1) in let a = o .fewer in let b = g .onward .fewer in omega arith
 
   loop-again : lts.Need-loop-again claims (arms-at t) arms.Post Inv-loop μ-loop
-  loop-again c = rw (c .first-empty .ensures) (arming-more (c .before .before .before .before .before .before .before .before .before .before .before .before .before .before .before .loop .inv) (expressed _ _ _ _ _ _ _ _ _ (c .before .before .before .before .before .before .before .before .parse-sequence .ensures) (c .before .before .arm .given .1)) (eat-onward _ "|" _ _ _ (omega arith) (c .before .before .before .before .before .before .before .before .before .before .before .before .before .before .before .loop .inv .listing .onward .lies) (c .before .before .before .before .before .before .before .before .before .before .before .before .before .before .eat-punctuation .ensures) (c .before .before .before .before .before .before .before .before .before .before .before .before .u .given .1)) (eat-yes _ "|" _ _ (c .before .before .before .before .before .before .before .before .before .before .before .before .before .before .eat-punctuation .ensures) (c .before .before .before .before .before .before .before .before .before .before .before .before .u .given .1)))
+  loop-again c =
+      let c8 = c .before .before .before .before .before .before .before .before in
+      let c12 = c8 .before .before .before .before in
+      let c14 = c12 .before .before in
+      let c15 = c14 .before in
+      rw (c .first-empty .ensures) (arming-more (c15 .loop .inv) (expressed _ _ _ _ _ _ _ _ _ (c8 .parse-sequence .ensures) (c .before .before .arm .given .1)) (eat-onward _ "|" _ _ _ (omega arith) (c15 .loop .inv .listing .onward .lies) (c14 .eat-punctuation .ensures) (c12 .u .given .1)) (eat-yes _ "|" _ _ (c14 .eat-punctuation .ensures) (c12 .u .given .1)))
 
   pub met : {M : Type 1} → lts.Closed claims (arms-at t) arms.Post M
   met = lts.spec claims (arms-at t) arms.Post Inv-loop μ-loop loop-holds eat-punctuation-requires enum-known-cause same-length same-length-2 returns enum-told same-length-3 same-length-4 returns-2 enum-known-u parse-sequence-requires enum-known-arm enum-told-2 cause-requires place-requires same-length-5 same-length-6 returns-3 add-count first-empty-requires loop-less loop-again

@@ -24,7 +24,9 @@ module _ (t : ℕ) where
   claims = (rule-head-reads.Asked, rule-head-reads.Learnt, headed-cause-reads.Asked, headed-cause-reads.Learnt, headed-place-reads.Asked, headed-place-reads.Learnt, braced-below t, braced.Post, start-reads.Asked, start-reads.Learnt, put-inline-reads.Asked, put-inline-reads.Learnt)
 
   rule-head-requires : lts.Need-rule-head-requires claims (inline-rule-at t) inline-rule.Post
-  rule-head-requires c κs = ready-step (c .before .before .before .before .before .pre .1 .0) (inline-on (c .before .before .before .before .before .args .token) (c .before .before .before .before .before .args .name) (c .before .before .before .before .before .pre .1 .0) (c .before .before .before .before .before .pre .1 .1))
+  rule-head-requires c κs =
+      let c5 = c .before .before .before .before .before in
+      ready-step (c5 .pre .1 .0) (inline-on (c5 .args .token) (c5 .args .name) (c5 .pre .1 .0) (c5 .pre .1 .1))
 
   enum-known-head : lts.Need-enum-known-head claims (inline-rule-at t) inline-rule.Post
   enum-known-head c = search needs
@@ -45,10 +47,16 @@ module _ (t : ℕ) where
   same-length-2 c = search needs
 
   returns : lts.Need-returns claims (inline-rule-at t) inline-rule.Post
-  returns c = inline-head _ _ _ _ (head-not _ _ _ _ _ _ (c .before .before .before .before .before .before .before .before .rule-head .ensures) (headed-told (c .before .before .enum-told .given .1) (c .before .cause .ensures) (c .place .ensures)))
+  returns c =
+      let c8 = c .before .before .before .before .before .before .before .before in
+      inline-head _ _ _ _ (head-not _ _ _ _ _ _ (c8 .rule-head .ensures) (headed-told (c .before .before .enum-told .given .1) (c .before .cause .ensures) (c .place .ensures)))
 
   braced-requires : lts.Need-braced-requires claims (inline-rule-at t) inline-rule.Post
-  braced-requires c κs = let r = ready-step (c .before .before .before .before .before .before .before .before .before .before .before .before .before .before .before .pre .1 .0) (inline-on (c .before .before .before .before .before .before .before .before .before .before .before .before .before .before .before .args .token) (c .before .before .before .before .before .before .before .before .before .before .before .before .before .before .before .args .name) (c .before .before .before .before .before .before .before .before .before .before .before .before .before .before .before .pre .1 .0) (c .before .before .before .before .before .before .before .before .before .before .before .before .before .before .before .pre .1 .1)) in let h = head-read _ _ _ _ _ _ (c .before .before .before .before .before .before .before .before .before .rule-head .ensures) (c .before .before .before .head .given .1) in (falls-on 12 11 (h .onward) (c .before .before .before .before .before .before .before .before .before .before .before .before .before .before .before .pre .0) (omega arith), ready-on r (h .onward) (h .lays))
+  braced-requires c κs =
+      let c3 = c .before .before .before in
+      let c9 = c3 .before .before .before .before .before .before in
+      let c15 = c9 .before .before .before .before .before .before in
+      let r = ready-step (c15 .pre .1 .0) (inline-on (c15 .args .token) (c15 .args .name) (c15 .pre .1 .0) (c15 .pre .1 .1)) in let h = head-read _ _ _ _ _ _ (c9 .rule-head .ensures) (c3 .head .given .1) in (falls-on 12 11 (h .onward) (c15 .pre .0) (omega arith), ready-on r (h .onward) (h .lays))
 
   enum-known-inside : lts.Need-enum-known-inside claims (inline-rule-at t) inline-rule.Post
   enum-known-inside c = search needs
@@ -63,7 +71,11 @@ module _ (t : ℕ) where
   same-length-4 c = search needs
 
   returns-2 : lts.Need-returns-2 claims (inline-rule-at t) inline-rule.Post
-  returns-2 c = rw (c .enum-told2 .given .1) (let h = head-read _ _ _ _ _ _ (c .before .before .before .before .before .before .before .before .before .before .before .before .before .before .before .before .rule-head .ensures) (c .before .before .before .before .before .before .before .before .before .before .head .given .1) in inline-body _ _ _ _ (h .gives) (braced-not _ _ _ _ _ _ _ (c .before .before .before .before .before .before .braced .ensures) (c .enum-told2 .given .1)))
+  returns-2 c =
+      let c6 = c .before .before .before .before .before .before in
+      let c10 = c6 .before .before .before .before in
+      let c16 = c10 .before .before .before .before .before .before in
+      rw (c .enum-told2 .given .1) (let h = head-read _ _ _ _ _ _ (c16 .rule-head .ensures) (c10 .head .given .1) in inline-body _ _ _ _ (h .gives) (braced-not _ _ _ _ _ _ _ (c6 .braced .ensures) (c .enum-told2 .given .1)))
 
   start-requires : lts.Need-start-requires claims (inline-rule-at t) inline-rule.Post
   start-requires c κs = search needs
@@ -75,28 +87,57 @@ module _ (t : ℕ) where
   same-length-6 c = search needs
 
   returns-3 : lts.Need-returns-3 claims (inline-rule-at t) inline-rule.Post
-  returns-3 c = let h = head-read _ _ _ _ _ _ (c .before .before .before .before .before .before .before .before .before .before .before .before .before .before .before .before .before .before .before .rule-head .ensures) (c .before .before .before .before .before .before .before .before .before .before .before .before .before .head .given .1) in let g = braced-read _ _ _ _ _ _ _ (c .before .before .before .before .before .before .before .before .before .braced .ensures) (c .before .before .before .inside .given .1) in inline-refused (c .before .before .before .before .before .before .before .before .before .before .before .before .before .before .before .before .before .before .before .before .before .before .before .before .before .args .left) (c .before .before .before .before .before .before .before .before .before .before .before .before .before .before .before .before .before .before .before .before .before .before .before .before .before .args .name) h g (c .before .before .before .before .before .before .before .before .before .before .before .before .before .before .before .before .before .before .before .before .before .before .before .before .before .args .first) (c .before .if1 .taken) (c .start .ensures)
+  returns-3 c =
+      let c3 = c .before .before .before in
+      let c9 = c3 .before .before .before .before .before .before in
+      let c13 = c9 .before .before .before .before in
+      let c19 = c13 .before .before .before .before .before .before in
+      let c25 = c19 .before .before .before .before .before .before in
+      let h = head-read _ _ _ _ _ _ (c19 .rule-head .ensures) (c13 .head .given .1) in let g = braced-read _ _ _ _ _ _ _ (c9 .braced .ensures) (c3 .inside .given .1) in inline-refused (c25 .args .left) (c25 .args .name) h g (c25 .args .first) (c .before .if1 .taken) (c .start .ensures)
 
   start-requires-2 : lts.Need-start-requires-2 claims (inline-rule-at t) inline-rule.Post
   start-requires-2 c κs = search needs
 
   add-put-inline : lts.Need-add-put-inline claims (inline-rule-at t) inline-rule.Post
-  add-put-inline c = let h = head-read _ _ _ _ _ _ (c .before .before .before .before .before .before .before .before .before .before .before .before .before .before .before .before .before .before .before .rule-head .ensures) (c .before .before .before .before .before .before .before .before .before .before .before .before .before .head .given .1) in omega (arith, heads-small h (c .before .before .before .before .before .before .before .before .before .before .before .before .before .before .before .before .before .before .before .before .before .before .before .before .before .pre .1 .0 .small))
+  add-put-inline c =
+      let c13 = c .before .before .before .before .before .before .before .before .before .before .before .before .before in
+      let c19 = c13 .before .before .before .before .before .before in
+      let c25 = c19 .before .before .before .before .before .before in
+      let h = head-read _ _ _ _ _ _ (c19 .rule-head .ensures) (c13 .head .given .1) in omega (arith, heads-small h (c25 .pre .1 .0 .small))
 
   put-inline-requires : lts.Need-put-inline-requires claims (inline-rule-at t) inline-rule.Post
-  put-inline-requires c κs = let r = ready-step (c .before .before .before .before .before .before .before .before .before .before .before .before .before .before .before .before .before .before .before .before .before .before .before .before .before .before .before .pre .1 .0) (inline-on (c .before .before .before .before .before .before .before .before .before .before .before .before .before .before .before .before .before .before .before .before .before .before .before .before .before .before .before .args .token) (c .before .before .before .before .before .before .before .before .before .before .before .before .before .before .before .before .before .before .before .before .before .before .before .before .before .before .before .args .name) (c .before .before .before .before .before .before .before .before .before .before .before .before .before .before .before .before .before .before .before .before .before .before .before .before .before .before .before .pre .1 .0) (c .before .before .before .before .before .before .before .before .before .before .before .before .before .before .before .before .before .before .before .before .before .before .before .before .before .before .before .pre .1 .1)) in let h = head-read _ _ _ _ _ _ (c .before .before .before .before .before .before .before .before .before .before .before .before .before .before .before .before .before .before .before .before .before .rule-head .ensures) (c .before .before .before .before .before .before .before .before .before .before .before .before .before .before .before .head .given .1) in let g = braced-read _ _ _ _ _ _ _ (c .before .before .before .before .before .before .before .before .before .before .before .braced .ensures) (c .before .before .before .before .before .inside .given .1) in let k = ready-on r (onward-then (h .onward) (g .yields .onward)) (lays-then (h .lays) (g .yields .lays)) in inline-ready h (c .before .before .before .before .before .before .before .before .before .before .before .before .before .before .before .before .before .before .before .before .before .before .before .before .before .before .before .args .name) (c .before .before .before .before .before .before .before .before .before .before .before .before .before .before .before .before .before .before .before .before .before .before .before .before .before .before .before .pre .1 .0) (c .before .before .before .before .before .before .before .before .before .before .before .before .before .before .before .before .before .before .before .before .before .before .before .before .before .before .before .pre .1 .1) k (c .before .before .start2 .ensures)
+  put-inline-requires c κs =
+      let c5 = c .before .before .before .before .before in
+      let c11 = c5 .before .before .before .before .before .before in
+      let c15 = c11 .before .before .before .before in
+      let c21 = c15 .before .before .before .before .before .before in
+      let c27 = c21 .before .before .before .before .before .before in
+      let r = ready-step (c27 .pre .1 .0) (inline-on (c27 .args .token) (c27 .args .name) (c27 .pre .1 .0) (c27 .pre .1 .1)) in let h = head-read _ _ _ _ _ _ (c21 .rule-head .ensures) (c15 .head .given .1) in let g = braced-read _ _ _ _ _ _ _ (c11 .braced .ensures) (c5 .inside .given .1) in let k = ready-on r (onward-then (h .onward) (g .yields .onward)) (lays-then (h .lays) (g .yields .lays)) in inline-ready h (c27 .args .name) (c27 .pre .1 .0) (c27 .pre .1 .1) k (c .before .before .start2 .ensures)
 
   start-requires-3 : lts.Need-start-requires-3 claims (inline-rule-at t) inline-rule.Post
   start-requires-3 c κs = search needs
 
   same-length-7 : lts.Need-same-length-7 claims (inline-rule-at t) inline-rule.Post
-  same-length-7 c = omega (arith, c .before .before .before .before .before .before .before .before .before .before .before .before .before .before .before .before .before .before .before .before .before .before .before .before .before .before .records .given, c .before .before .before .before .before .before .before .before .before .before .before .before .before .before .before .before .records2 .given, c .before .before .before .before .records3 .given)
+  same-length-7 c =
+      let c4 = c .before .before .before .before in
+      let c16 = c4 .before .before .before .before .before .before .before .before .before .before .before .before in
+      let c26 = c16 .before .before .before .before .before .before .before .before .before .before in
+      omega (arith, c26 .records .given, c16 .records2 .given, c4 .records3 .given)
 
   same-length-8 : lts.Need-same-length-8 claims (inline-rule-at t) inline-rule.Post
   same-length-8 c = search needs
 
   returns-4 : lts.Need-returns-4 claims (inline-rule-at t) inline-rule.Post
-  returns-4 c = let h = head-read _ _ _ _ _ _ (c .before .before .before .before .before .before .before .before .before .before .before .before .before .before .before .before .before .before .before .before .before .before .before .before .before .before .before .rule-head .ensures) (c .before .before .before .before .before .before .before .before .before .before .before .before .before .before .before .before .before .before .before .before .before .head .given .1) in let g = braced-read _ _ _ _ _ _ _ (c .before .before .before .before .before .before .before .before .before .before .before .before .before .before .before .before .before .braced .ensures) (c .before .before .before .before .before .before .before .before .before .before .before .inside .given .1) in inline-yields (c .before .before .before .before .before .before .before .before .before .before .before .before .before .before .before .before .before .before .before .before .before .before .before .before .before .before .before .before .before .before .before .before .before .args .left) (c .before .before .before .before .before .before .before .before .before .before .before .before .before .before .before .before .before .before .before .before .before .before .before .before .before .before .before .before .before .before .before .before .before .args .name) h g (c .before .before .before .before .before .before .before .before .before .before .before .before .before .before .before .before .before .before .before .before .before .before .before .before .before .before .before .before .before .before .before .before .before .pre .1 .0) (c .before .before .before .before .before .before .before .before .before .before .before .before .before .before .before .before .before .before .before .before .before .before .before .before .before .before .before .before .before .before .before .before .before .pre .1 .1) (c .before .before .before .before .before .before .before .before .before .if1 .left) (c .before .before .before .before .before .put-inline .ensures) (c .before .before .before .before .before .before .before .before .start2 .ensures) (c .start3 .ensures)
+  returns-4 c =
+      let c5 = c .before .before .before .before .before in
+      let c8 = c5 .before .before .before in
+      let c9 = c8 .before in
+      let c11 = c9 .before .before in
+      let c17 = c11 .before .before .before .before .before .before in
+      let c21 = c17 .before .before .before .before in
+      let c27 = c21 .before .before .before .before .before .before in
+      let c33 = c27 .before .before .before .before .before .before in
+      let h = head-read _ _ _ _ _ _ (c27 .rule-head .ensures) (c21 .head .given .1) in let g = braced-read _ _ _ _ _ _ _ (c17 .braced .ensures) (c11 .inside .given .1) in inline-yields (c33 .args .left) (c33 .args .name) h g (c33 .pre .1 .0) (c33 .pre .1 .1) (c9 .if1 .left) (c5 .put-inline .ensures) (c8 .start2 .ensures) (c .start3 .ensures)
 
   pub met : {M : Type 1} → lts.Closed claims (inline-rule-at t) inline-rule.Post M
   met = lts.spec claims (inline-rule-at t) inline-rule.Post rule-head-requires enum-known-head enum-told cause-requires place-requires same-length same-length-2 returns braced-requires enum-known-inside enum-told-2 same-length-3 same-length-4 returns-2 start-requires same-length-5 same-length-6 returns-3 start-requires-2 add-put-inline put-inline-requires start-requires-3 same-length-7 same-length-8 returns-4

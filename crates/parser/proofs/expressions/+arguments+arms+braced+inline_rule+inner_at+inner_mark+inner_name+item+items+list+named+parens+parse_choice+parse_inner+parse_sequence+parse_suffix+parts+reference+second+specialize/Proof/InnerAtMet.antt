@@ -19,97 +19,100 @@ module _ (t : ℕ) where
   abbrev claims : lts.Claims
   claims = (spells-reads.Asked, spells-reads.Learnt, specialize-below t, specialize.Post, start-reads.Asked, start-reads.Learnt, parse-class-reads.Asked, parse-class-reads.Learnt)
 
-  -- src/expressions.rt:102:29
   sub-spells : lts.Need-sub-spells claims (inner-at-at t) inner-at.Post
   sub-spells c = at-in (c .before .before .before .pre .1 .0) (c .before .before .before .pre .1 .1) .part .forth
 
-  -- src/expressions.rt:102:29
   part-spells-start : lts.Need-part-spells-start claims (inner-at-at t) inner-at.Post
   part-spells-start c = at-in (c .before .before .before .pre .1 .0) (c .before .before .before .pre .1 .1) .part .forth
 
-  -- src/expressions.rt:102:29
   part-spells-end : lts.Need-part-spells-end claims (inner-at-at t) inner-at.Post
   part-spells-end c = at-in (c .before .before .before .pre .1 .0) (c .before .before .before .pre .1 .1) .part .inside
 
-  -- src/expressions.rt:102:44
   slice-aggregate-spells : lts.Need-slice-aggregate-spells claims (inner-at-at t) inner-at.Post
   slice-aggregate-spells c = search needs
 
-  -- src/expressions.rt:102:8
   spells-requires : lts.Need-spells-requires claims (inner-at-at t) inner-at.Post
   spells-requires c κs = search needs
 
-  -- src/expressions.rt:103:9
   specialize-requires : lts.Need-specialize-requires claims (inner-at-at t) inner-at.Post
-  specialize-requires c κs = (falls-on 13 12 (ready-here (c .before .before .before .before .before .before .before .before .before .pre .1 .0)) (c .before .before .before .before .before .before .before .before .before .pre .0) (omega arith), (c .before .before .before .before .before .before .before .before .before .pre .1 .0, at-token (c .before .before .before .before .before .before .before .before .before .args .token) (c .before .before .before .before .before .before .before .before .before .pre .1 .1)))
+  specialize-requires c κs =
+      let c9 = c .before .before .before .before .before .before .before .before .before in
+      (falls-on 13 12 (ready-here (c9 .pre .1 .0)) (c9 .pre .0) (omega arith), (c9 .pre .1 .0, at-token (c9 .args .token) (c9 .pre .1 .1)))
 
-  -- src/expressions.rt:103:9
   same-length : lts.Need-same-length claims (inner-at-at t) inner-at.Post
   same-length c = search needs
 
-  -- src/expressions.rt:103:9
   same-length-2 : lts.Need-same-length-2 claims (inner-at-at t) inner-at.Post
   same-length-2 c = search needs
 
-  -- src/expressions.rt:103:9
   returns : lts.Need-returns claims (inner-at-at t) inner-at.Post
-  returns c = let w = spelled _ _ _ _ _ (at-in (c .before .before .before .before .before .before .before .before .before .before .before .before .before .before .pre .1 .0) (c .before .before .before .before .before .before .before .before .before .before .before .before .before .before .pre .1 .1) .part) (c .before .before .before .before .before .before .before .before .spells .ensures) plain-specialize in expresses-as _ _ _ _ _ _ _ _ _ (c .before .before .before .before .specialize .result) (c .before .before .before .before .specialize .ensures) (inner-specialize _ _ _ (c .before .before .before .before .before .before .before .before .before .before .before .before .before .before .pre .1 .1) (w ∙ c .before .before .before .before .before .before .before .if1 .taken))
+  returns c =
+      let c4 = c .before .before .before .before in
+      let c7 = c4 .before .before .before in
+      let c8 = c7 .before in
+      let c14 = c8 .before .before .before .before .before .before in
+      let w = spelled _ _ _ _ _ (at-in (c14 .pre .1 .0) (c14 .pre .1 .1) .part) (c8 .spells .ensures) plain-specialize in expresses-as _ _ _ _ _ _ _ _ _ (c4 .specialize .result) (c4 .specialize .ensures) (inner-specialize _ _ _ (c14 .pre .1 .1) (w ∙ c7 .if1 .taken))
 
-  -- src/expressions.rt:105:29
   sub-spells-2 : lts.Need-sub-spells-2 claims (inner-at-at t) inner-at.Post
   sub-spells-2 c = at-in (c .before .before .before .before .before .before .before .pre .1 .0) (c .before .before .before .before .before .before .before .pre .1 .1) .part .forth
 
-  -- src/expressions.rt:105:29
   part-spells-start-2 : lts.Need-part-spells-start-2 claims (inner-at-at t) inner-at.Post
   part-spells-start-2 c = at-in (c .before .before .before .before .before .before .before .pre .1 .0) (c .before .before .before .before .before .before .before .pre .1 .1) .part .forth
 
-  -- src/expressions.rt:105:29
   part-spells-end-2 : lts.Need-part-spells-end-2 claims (inner-at-at t) inner-at.Post
   part-spells-end-2 c = at-in (c .before .before .before .before .before .before .before .pre .1 .0) (c .before .before .before .before .before .before .before .pre .1 .1) .part .inside
 
-  -- src/expressions.rt:105:44
   slice-aggregate-spells-2 : lts.Need-slice-aggregate-spells-2 claims (inner-at-at t) inner-at.Post
   slice-aggregate-spells-2 c = search needs
 
-  -- src/expressions.rt:105:8
   spells-requires-2 : lts.Need-spells-requires-2 claims (inner-at-at t) inner-at.Post
   spells-requires-2 c κs = search needs
 
-  -- src/expressions.rt:106:9
   specialize-requires-2 : lts.Need-specialize-requires-2 claims (inner-at-at t) inner-at.Post
-  specialize-requires-2 c κs = (falls-on 13 12 (ready-here (c .before .before .before .before .before .before .before .before .before .before .before .before .before .pre .1 .0)) (c .before .before .before .before .before .before .before .before .before .before .before .before .before .pre .0) (omega arith), (c .before .before .before .before .before .before .before .before .before .before .before .before .before .pre .1 .0, at-token (c .before .before .before .before .before .before .before .before .before .before .before .before .before .args .token) (c .before .before .before .before .before .before .before .before .before .before .before .before .before .pre .1 .1)))
+  specialize-requires-2 c κs =
+      let c13 = c .before .before .before .before .before .before .before .before .before .before .before .before .before in
+      (falls-on 13 12 (ready-here (c13 .pre .1 .0)) (c13 .pre .0) (omega arith), (c13 .pre .1 .0, at-token (c13 .args .token) (c13 .pre .1 .1)))
 
-  -- src/expressions.rt:106:9
   same-length-3 : lts.Need-same-length-3 claims (inner-at-at t) inner-at.Post
   same-length-3 c = search needs
 
-  -- src/expressions.rt:106:9
   same-length-4 : lts.Need-same-length-4 claims (inner-at-at t) inner-at.Post
   same-length-4 c = search needs
 
-  -- src/expressions.rt:106:9
   returns-2 : lts.Need-returns-2 claims (inner-at-at t) inner-at.Post
-  returns-2 c = let w = spelled _ _ _ _ _ (at-in (c .before .before .before .before .before .before .before .before .before .before .before .before .before .before .before .before .before .before .pre .1 .0) (c .before .before .before .before .before .before .before .before .before .before .before .before .before .before .before .before .before .before .pre .1 .1) .part) (c .before .before .before .before .before .before .before .before .before .before .before .before .spells .ensures) plain-specialize in let v = spelled _ _ _ _ _ (at-in (c .before .before .before .before .before .before .before .before .before .before .before .before .before .before .before .before .before .before .pre .1 .0) (c .before .before .before .before .before .before .before .before .before .before .before .before .before .before .before .before .before .before .pre .1 .1) .part) (c .before .before .before .before .before .before .before .before .spells2 .ensures) plain-extend in expresses-as _ _ _ _ _ _ _ _ _ (c .before .before .before .before .specialize2 .result) (c .before .before .before .before .specialize2 .ensures) (inner-extend _ _ _ (c .before .before .before .before .before .before .before .before .before .before .before .before .before .before .before .before .before .before .pre .1 .1) (w ∙ c .before .before .before .before .before .before .before .before .before .before .before .if1 .left) (v ∙ c .before .before .before .before .before .before .before .if2 .taken))
+  returns-2 c =
+      let c4 = c .before .before .before .before in
+      let c7 = c4 .before .before .before in
+      let c8 = c7 .before in
+      let c11 = c8 .before .before .before in
+      let c12 = c11 .before in
+      let c18 = c12 .before .before .before .before .before .before in
+      let w = spelled _ _ _ _ _ (at-in (c18 .pre .1 .0) (c18 .pre .1 .1) .part) (c12 .spells .ensures) plain-specialize in let v = spelled _ _ _ _ _ (at-in (c18 .pre .1 .0) (c18 .pre .1 .1) .part) (c8 .spells2 .ensures) plain-extend in expresses-as _ _ _ _ _ _ _ _ _ (c4 .specialize2 .result) (c4 .specialize2 .ensures) (inner-extend _ _ _ (c18 .pre .1 .1) (w ∙ c11 .if1 .left) (v ∙ c7 .if2 .taken))
 
-  -- src/expressions.rt:108:39
   start-requires : lts.Need-start-requires claims (inner-at-at t) inner-at.Post
   start-requires c κs = search needs
 
-  -- src/expressions.rt:108:5
   parse-class-requires : lts.Need-parse-class-requires claims (inner-at-at t) inner-at.Post
-  parse-class-requires c κs = let p = at-in (c .before .before .before .before .before .before .before .before .before .before .before .before .before .before .pre .1 .0) (c .before .before .before .before .before .before .before .before .before .before .before .before .before .before .pre .1 .1) .part in (c .before .before .before .before .before .before .before .before .before .before .before .before .before .before .pre .1 .0, at-token (c .before .before .before .before .before .before .before .before .before .before .before .before .before .before .args .token) (c .before .before .before .before .before .before .before .before .before .before .before .before .before .before .pre .1 .1), p, ready-start (c .before .before .before .before .before .before .before .before .before .before .before .before .before .before .pre .1 .0) (c .before .before .start .ensures))
+  parse-class-requires c κs =
+      let c14 = c .before .before .before .before .before .before .before .before .before .before .before .before .before .before in
+      let p = at-in (c14 .pre .1 .0) (c14 .pre .1 .1) .part in (c14 .pre .1 .0, at-token (c14 .args .token) (c14 .pre .1 .1), p, ready-start (c14 .pre .1 .0) (c .before .before .start .ensures))
 
-  -- src/expressions.rt:97:1
   same-length-5 : lts.Need-same-length-5 claims (inner-at-at t) inner-at.Post
   same-length-5 c = search needs
 
-  -- src/expressions.rt:97:1
   same-length-6 : lts.Need-same-length-6 claims (inner-at-at t) inner-at.Post
   same-length-6 c = search needs
 
-  -- src/expressions.rt:97:1
   returns-3 : lts.Need-returns-3 claims (inner-at-at t) inner-at.Post
-  returns-3 c = let w = spelled _ _ _ _ _ (at-in (c .before .before .before .before .before .before .before .before .before .before .before .before .before .before .before .before .before .before .before .pre .1 .0) (c .before .before .before .before .before .before .before .before .before .before .before .before .before .before .before .before .before .before .before .pre .1 .1) .part) (c .before .before .before .before .before .before .before .before .before .before .before .before .before .spells .ensures) plain-specialize in let v = spelled _ _ _ _ _ (at-in (c .before .before .before .before .before .before .before .before .before .before .before .before .before .before .before .before .before .before .before .pre .1 .0) (c .before .before .before .before .before .before .before .before .before .before .before .before .before .before .before .before .before .before .before .pre .1 .1) .part) (c .before .before .before .before .before .before .before .before .before .spells2 .ensures) plain-extend in expresses-as _ _ _ _ _ _ _ _ _ (c .before .before .before .before .parse-class .result) (c .before .before .before .before .parse-class .ensures) (rw (c .before .before .before .before .before .before .before .start .ensures) (inner-class _ _ _ (c .before .before .before .before .before .before .before .before .before .before .before .before .before .before .before .before .before .before .before .pre .1 .1) (w ∙ c .before .before .before .before .before .before .before .before .before .before .before .before .if1 .left) (v ∙ c .before .before .before .before .before .before .before .before .if2 .left)))
+  returns-3 c =
+      let c4 = c .before .before .before .before in
+      let c7 = c4 .before .before .before in
+      let c8 = c7 .before in
+      let c9 = c8 .before in
+      let c12 = c9 .before .before .before in
+      let c13 = c12 .before in
+      let c19 = c13 .before .before .before .before .before .before in
+      let w = spelled _ _ _ _ _ (at-in (c19 .pre .1 .0) (c19 .pre .1 .1) .part) (c13 .spells .ensures) plain-specialize in let v = spelled _ _ _ _ _ (at-in (c19 .pre .1 .0) (c19 .pre .1 .1) .part) (c9 .spells2 .ensures) plain-extend in expresses-as _ _ _ _ _ _ _ _ _ (c4 .parse-class .result) (c4 .parse-class .ensures) (rw (c7 .start .ensures) (inner-class _ _ _ (c19 .pre .1 .1) (w ∙ c12 .if1 .left) (v ∙ c8 .if2 .left)))
 
   pub met : {M : Type 1} → lts.Closed claims (inner-at-at t) inner-at.Post M
   met = lts.spec claims (inner-at-at t) inner-at.Post sub-spells part-spells-start part-spells-end slice-aggregate-spells spells-requires specialize-requires same-length same-length-2 returns sub-spells-2 part-spells-start-2 part-spells-end-2 slice-aggregate-spells-2 spells-requires-2 specialize-requires-2 same-length-3 same-length-4 returns-2 start-requires parse-class-requires same-length-5 same-length-6 returns-3

@@ -37,13 +37,23 @@ module _ (t : ℕ) where
   place-requires c κs = search needs
 
   returns : lts.Need-returns claims (inner-mark-at t) inner-mark.Post
-  returns c = paren-refused _ _ (c .before .before .before .before .before .before .before .before .before .args .token) _ (c .before .before .before .before .before .before .before .before .before .pre .1 .1) (c .before .before .before .before .before .match .keys1) (arrived-not _ _ (c .before .before .before .before .next .ensures .0) (arrived-told (c .before .before .enum-told .given .1) (c .before .cause .ensures) (c .place .ensures)))
+  returns c =
+      let c4 = c .before .before .before .before in
+      let c5 = c4 .before in
+      let c9 = c5 .before .before .before .before in
+      paren-refused _ _ (c9 .args .token) _ (c9 .pre .1 .1) (c5 .match .keys1) (arrived-not _ _ (c4 .next .ensures .0) (arrived-told (c .before .before .enum-told .given .1) (c .before .cause .ensures) (c .place .ensures)))
 
   parens-requires : lts.Need-parens-requires claims (inner-mark-at t) inner-mark.Post
-  parens-requires c κs = let o = next-onward _ _ _ _ (mark-token (c .before .before .before .before .before .before .before .before .before .before .args .token) _ (c .before .before .before .before .before .before .before .before .before .before .pre .1 .1)) (c .before .before .before .before .before .before .before .before .before .before .pre .1 .0 .lies) (c .before .before .before .before .before .next .ensures) (c .before .before .before .arrived .given .1) in (falls-past 13 21 o (c .before .before .before .before .before .before .before .before .before .before .pre .0) (omega arith), (c .before .before .before .before .before .before .before .before .before .before .pre .1 .0, o))
+  parens-requires c κs =
+      let c3 = c .before .before .before in
+      let c5 = c3 .before .before in
+      let c10 = c5 .before .before .before .before .before in
+      let o = next-onward _ _ _ _ (mark-token (c10 .args .token) _ (c10 .pre .1 .1)) (c10 .pre .1 .0 .lies) (c5 .next .ensures) (c3 .arrived .given .1) in (falls-past 13 21 o (c10 .pre .0) (omega arith), (c10 .pre .1 .0, o))
 
   inline-rule-requires : lts.Need-inline-rule-requires claims (inner-mark-at t) inner-mark.Post
-  inline-rule-requires c κs = (falls-on 13 12 (ready-here (c .before .before .before .before .before .before .pre .1 .0)) (c .before .before .before .before .before .before .pre .0) (omega arith), (c .before .before .before .before .before .before .pre .1 .0, (refl, mark-token (c .before .before .before .before .before .before .args .token) _ (c .before .before .before .before .before .before .pre .1 .1))))
+  inline-rule-requires c κs =
+      let c6 = c .before .before .before .before .before .before in
+      (falls-on 13 12 (ready-here (c6 .pre .1 .0)) (c6 .pre .0) (omega arith), (c6 .pre .1 .0, (refl, mark-token (c6 .args .token) _ (c6 .pre .1 .1))))
 
   start-requires : lts.Need-start-requires claims (inner-mark-at t) inner-mark.Post
   start-requires c κs = search needs
@@ -55,7 +65,13 @@ module _ (t : ℕ) where
   same-length-2 c = search needs
 
   returns-2 : lts.Need-returns-2 claims (inner-mark-at t) inner-mark.Post
-  returns-2 c = expresses-as _ _ _ _ _ _ _ _ _ (c .before .before .before .before .parens .result) (c .before .before .before .before .parens .ensures) (paren-read _ _ (c .before .before .before .before .before .before .before .before .before .before .before .before .before .before .before .args .token) _ (c .before .before .before .before .before .before .before .before .before .before .before .before .before .before .before .pre .1 .1) (c .before .before .before .before .before .before .before .before .before .before .before .match .keys1) (arrived-at _ _ (c .before .before .before .before .before .before .before .before .before .before .next .ensures .0) (c .before .before .before .before .before .before .before .before .arrived .given .1)))
+  returns-2 c =
+      let c4 = c .before .before .before .before in
+      let c8 = c4 .before .before .before .before in
+      let c10 = c8 .before .before in
+      let c11 = c10 .before in
+      let c15 = c11 .before .before .before .before in
+      expresses-as _ _ _ _ _ _ _ _ _ (c4 .parens .result) (c4 .parens .ensures) (paren-read _ _ (c15 .args .token) _ (c15 .pre .1 .1) (c11 .match .keys1) (arrived-at _ _ (c10 .next .ensures .0) (c8 .arrived .given .1)))
 
   same-length-3 : lts.Need-same-length-3 claims (inner-mark-at t) inner-mark.Post
   same-length-3 c = search needs
@@ -64,10 +80,16 @@ module _ (t : ℕ) where
   same-length-4 c = search needs
 
   returns-3 : lts.Need-returns-3 claims (inner-mark-at t) inner-mark.Post
-  returns-3 c = expresses-as _ _ _ _ _ _ _ _ _ (c .before .before .before .before .inline-rule .result) (c .before .before .before .before .inline-rule .ensures) (mark-anon _ _ (c .before .before .before .before .before .before .before .before .before .before .before .args .token) _ (c .before .before .before .before .before .before .before .before .before .before .before .pre .1 .1) (c .before .before .before .before .before .before .before .match .keys2))
+  returns-3 c =
+      let c4 = c .before .before .before .before in
+      let c7 = c4 .before .before .before in
+      let c11 = c7 .before .before .before .before in
+      expresses-as _ _ _ _ _ _ _ _ _ (c4 .inline-rule .result) (c4 .inline-rule .ensures) (mark-anon _ _ (c11 .args .token) _ (c11 .pre .1 .1) (c7 .match .keys2))
 
   returns-4 : lts.Need-returns-4 claims (inner-mark-at t) inner-mark.Post
-  returns-4 c = mark-other _ _ (c .before .before .before .before .before .args .token) _ (c .before .before .before .before .before .pre .1 .1) (c .before .match .rest .0 .1) (c .before .match .rest .1) (c .start .ensures)
+  returns-4 c =
+      let c5 = c .before .before .before .before .before in
+      mark-other _ _ (c5 .args .token) _ (c5 .pre .1 .1) (c .before .match .rest .0 .1) (c .before .match .rest .1) (c .start .ensures)
 
   pub met : {M : Type 1} → lts.Closed claims (inner-mark-at t) inner-mark.Post M
   met = lts.spec claims (inner-mark-at t) inner-mark.Post next-requires enum-known-arrived enum-told cause-requires place-requires returns parens-requires inline-rule-requires start-requires same-length same-length-2 returns-2 same-length-3 same-length-4 returns-3 returns-4

@@ -38,7 +38,9 @@ module _ (t : ℕ) where
   spells-requires c κs = search needs
 
   parse-any-requires : lts.Need-parse-any-requires claims (inner-name-at t) inner-name.Post
-  parse-any-requires c κs = (c .before .before .before .before .before .before .before .before .before .pre .1 .0, name-token (c .before .before .before .before .before .before .before .before .before .args .token) (c .before .before .before .before .before .before .before .before .before .pre .1 .1))
+  parse-any-requires c κs =
+      let c9 = c .before .before .before .before .before .before .before .before .before in
+      (c9 .pre .1 .0, name-token (c9 .args .token) (c9 .pre .1 .1))
 
   same-length : lts.Need-same-length claims (inner-name-at t) inner-name.Post
   same-length c = search needs
@@ -47,7 +49,12 @@ module _ (t : ℕ) where
   same-length-2 c = search needs
 
   returns : lts.Need-returns claims (inner-name-at t) inner-name.Post
-  returns c = let w = spelled _ _ _ _ _ (name-in (c .before .before .before .before .before .before .before .before .before .before .before .before .before .before .pre .1 .0) (c .before .before .before .before .before .before .before .before .before .before .before .before .before .before .pre .1 .1) .part) (c .before .before .before .before .before .before .before .before .spells .ensures) plain-any in expresses-as _ _ _ _ _ _ _ _ _ (c .before .before .before .before .parse-any .result) (c .before .before .before .before .parse-any .ensures) (inner-any _ _ _ (c .before .before .before .before .before .before .before .before .before .before .before .before .before .before .pre .1 .1) (w ∙ c .before .before .before .before .before .before .before .if1 .taken))
+  returns c =
+      let c4 = c .before .before .before .before in
+      let c7 = c4 .before .before .before in
+      let c8 = c7 .before in
+      let c14 = c8 .before .before .before .before .before .before in
+      let w = spelled _ _ _ _ _ (name-in (c14 .pre .1 .0) (c14 .pre .1 .1) .part) (c8 .spells .ensures) plain-any in expresses-as _ _ _ _ _ _ _ _ _ (c4 .parse-any .result) (c4 .parse-any .ensures) (inner-any _ _ _ (c14 .pre .1 .1) (w ∙ c7 .if1 .taken))
 
   next-requires : lts.Need-next-requires claims (inner-name-at t) inner-name.Post
   next-requires c κs = search needs
@@ -65,10 +72,19 @@ module _ (t : ℕ) where
   place-requires c κs = search needs
 
   returns-2 : lts.Need-returns-2 claims (inner-name-at t) inner-name.Post
-  returns-2 c = let w = spelled _ _ _ _ _ (name-in (c .before .before .before .before .before .before .before .before .before .before .before .before .pre .1 .0) (c .before .before .before .before .before .before .before .before .before .before .before .before .pre .1 .1) .part) (c .before .before .before .before .before .before .spells .ensures) plain-any in inner-named-refused _ _ _ (c .before .before .before .before .before .before .before .before .before .before .before .before .pre .1 .1) (w ∙ c .before .before .before .before .before .if1 .left) (arrived-not _ _ (c .before .before .before .before .next .ensures .0) (arrived-told (c .before .before .enum-told .given .1) (c .before .cause .ensures) (c .place .ensures)))
+  returns-2 c =
+      let c4 = c .before .before .before .before in
+      let c5 = c4 .before in
+      let c6 = c5 .before in
+      let c12 = c6 .before .before .before .before .before .before in
+      let w = spelled _ _ _ _ _ (name-in (c12 .pre .1 .0) (c12 .pre .1 .1) .part) (c6 .spells .ensures) plain-any in inner-named-refused _ _ _ (c12 .pre .1 .1) (w ∙ c5 .if1 .left) (arrived-not _ _ (c4 .next .ensures .0) (arrived-told (c .before .before .enum-told .given .1) (c .before .cause .ensures) (c .place .ensures)))
 
   named-requires : lts.Need-named-requires claims (inner-name-at t) inner-name.Post
-  named-requires c κs = let o = next-behind _ _ _ _ (name-token (c .before .before .before .before .before .before .before .before .before .before .before .before .before .args .token) (c .before .before .before .before .before .before .before .before .before .before .before .before .before .pre .1 .1)) (c .before .before .before .before .before .before .before .before .before .before .before .before .before .pre .1 .0 .lies) (c .before .before .before .before .before .next .ensures) (c .before .before .before .arrived .given .1) in (falls-past 13 13 (o .on) (c .before .before .before .before .before .before .before .before .before .before .before .before .before .pre .0) (omega arith), (c .before .before .before .before .before .before .before .before .before .before .before .before .before .pre .1 .0, o, c .before .before .before .before .before .before .before .before .before .before .before .before .before .pre .1 .1))
+  named-requires c κs =
+      let c3 = c .before .before .before in
+      let c5 = c3 .before .before in
+      let c13 = c5 .before .before .before .before .before .before .before .before in
+      let o = next-behind _ _ _ _ (name-token (c13 .args .token) (c13 .pre .1 .1)) (c13 .pre .1 .0 .lies) (c5 .next .ensures) (c3 .arrived .given .1) in (falls-past 13 13 (o .on) (c13 .pre .0) (omega arith), (c13 .pre .1 .0, o, c13 .pre .1 .1))
 
   same-length-3 : lts.Need-same-length-3 claims (inner-name-at t) inner-name.Post
   same-length-3 c = search needs
@@ -77,7 +93,14 @@ module _ (t : ℕ) where
   same-length-4 c = search needs
 
   returns-3 : lts.Need-returns-3 claims (inner-name-at t) inner-name.Post
-  returns-3 c = let w = spelled _ _ _ _ _ (name-in (c .before .before .before .before .before .before .before .before .before .before .before .before .before .before .before .before .before .before .pre .1 .0) (c .before .before .before .before .before .before .before .before .before .before .before .before .before .before .before .before .before .before .pre .1 .1) .part) (c .before .before .before .before .before .before .before .before .before .before .before .before .spells .ensures) plain-any in expresses-as _ _ _ _ _ _ _ _ _ (c .before .before .before .before .named .result) (c .before .before .before .before .named .ensures) (inner-named _ _ _ (c .before .before .before .before .before .before .before .before .before .before .before .before .before .before .before .before .before .before .pre .1 .1) (w ∙ c .before .before .before .before .before .before .before .before .before .before .before .if1 .left) (arrived-at _ _ (c .before .before .before .before .before .before .before .before .before .before .next .ensures .0) (c .before .before .before .before .before .before .before .before .arrived .given .1)))
+  returns-3 c =
+      let c4 = c .before .before .before .before in
+      let c8 = c4 .before .before .before .before in
+      let c10 = c8 .before .before in
+      let c11 = c10 .before in
+      let c12 = c11 .before in
+      let c18 = c12 .before .before .before .before .before .before in
+      let w = spelled _ _ _ _ _ (name-in (c18 .pre .1 .0) (c18 .pre .1 .1) .part) (c12 .spells .ensures) plain-any in expresses-as _ _ _ _ _ _ _ _ _ (c4 .named .result) (c4 .named .ensures) (inner-named _ _ _ (c18 .pre .1 .1) (w ∙ c11 .if1 .left) (arrived-at _ _ (c10 .next .ensures .0) (c8 .arrived .given .1)))
 
   pub met : {M : Type 1} → lts.Closed claims (inner-name-at t) inner-name.Post M
   met = lts.spec claims (inner-name-at t) inner-name.Post sub-spells part-spells-start part-spells-end slice-aggregate-spells spells-requires parse-any-requires same-length same-length-2 returns next-requires enum-known-arrived enum-told cause-requires place-requires returns-2 named-requires same-length-3 same-length-4 returns-3

@@ -32,7 +32,12 @@ module _ (t : ℕ) where
   enum-known-kind c = search needs
 
   parse-marker-requires : lts.Need-parse-marker-requires claims (item-at t) item.Post
-  parse-marker-requires c κs = (c .before .before .before .before .before .before .before .before .before .before .pre .1, marker-token (c .before .before .before .before .before .before .before .before .before .before .args .token) (rw (c .before .before .before .before .before .before .mark .ensures) at (marked-some _ (c .before .before .before .before .before .marker-kind .ensures) (c .before .before .before .kind .given .1))))
+  parse-marker-requires c κs =
+      let c3 = c .before .before .before in
+      let c5 = c3 .before .before in
+      let c6 = c5 .before in
+      let c10 = c6 .before .before .before .before in
+      (c10 .pre .1, marker-token (c10 .args .token) (rw (c6 .mark .ensures) at (marked-some _ (c5 .marker-kind .ensures) (c3 .kind .given .1))))
 
   enum-told : lts.Need-enum-told claims (item-at t) item.Post
   enum-told c = search needs
@@ -41,10 +46,15 @@ module _ (t : ℕ) where
   ends-sequence-requires c κs = search needs
 
   returns : lts.Need-returns claims (item-at t) item.Post
-  returns c = record { gives = item-end _ _ _ _ (rw (c .before .before .before .before .before .mark .ensures) at (marked-none _ (c .before .before .before .before .marker-kind .ensures) (c .before .before .enum-told .given .1))) (sym (c .before .ends-sequence .ensures) ∙ c .if1 .taken); same-words = refl; same-texts = refl }
+  returns c =
+      let c4 = c .before .before .before .before in
+      let c5 = c4 .before in
+      record { gives = item-end _ _ _ _ (rw (c5 .mark .ensures) at (marked-none _ (c4 .marker-kind .ensures) (c .before .before .enum-told .given .1))) (sym (c .before .ends-sequence .ensures) ∙ c .if1 .taken); same-words = refl; same-texts = refl }
 
   parse-suffix-requires : lts.Need-parse-suffix-requires claims (item-at t) item.Post
-  parse-suffix-requires c κs = (omega (arith, c .before .before .before .before .before .before .before .before .before .before .before .pre .0), c .before .before .before .before .before .before .before .before .before .before .before .pre .1)
+  parse-suffix-requires c κs =
+      let c11 = c .before .before .before .before .before .before .before .before .before .before .before in
+      (omega (arith, c11 .pre .0), c11 .pre .1)
 
   enum-known-suffixed : lts.Need-enum-known-suffixed claims (item-at t) item.Post
   enum-known-suffixed c = search needs
@@ -65,7 +75,14 @@ module _ (t : ℕ) where
   same-length-2 c = search needs
 
   returns-2 : lts.Need-returns-2 claims (item-at t) item.Post
-  returns-2 c = item-refused _ _ _ _ (rw (c .before .before .before .before .before .before .before .before .before .before .before .before .before .before .before .before .mark .ensures) at (marked-none _ (c .before .before .before .before .before .before .before .before .before .before .before .before .before .before .before .marker-kind .ensures) (c .before .before .before .before .before .before .before .before .before .before .before .before .before .enum-told .given .1))) (sym (c .before .before .before .before .before .before .before .before .before .before .before .before .ends-sequence .ensures) ∙ c .before .before .before .before .before .before .before .before .before .before .before .if1 .left) (expressed-not _ _ _ _ _ _ _ _ _ (c .before .before .before .before .before .before .before .before .parse-suffix .ensures) (expressed-told (c .before .before .enum-told2 .given .1) (c .before .cause .ensures) (c .place .ensures)))
+  returns-2 c =
+      let c8 = c .before .before .before .before .before .before .before .before in
+      let c11 = c8 .before .before .before in
+      let c12 = c11 .before in
+      let c13 = c12 .before in
+      let c15 = c13 .before .before in
+      let c16 = c15 .before in
+      item-refused _ _ _ _ (rw (c16 .mark .ensures) at (marked-none _ (c15 .marker-kind .ensures) (c13 .enum-told .given .1))) (sym (c12 .ends-sequence .ensures) ∙ c11 .if1 .left) (expressed-not _ _ _ _ _ _ _ _ _ (c8 .parse-suffix .ensures) (expressed-told (c .before .before .enum-told2 .given .1) (c .before .cause .ensures) (c .place .ensures)))
 
   same-length-3 : lts.Need-same-length-3 claims (item-at t) item.Post
   same-length-3 c = search needs
@@ -74,7 +91,12 @@ module _ (t : ℕ) where
   same-length-4 c = search needs
 
   returns-3 : lts.Need-returns-3 claims (item-at t) item.Post
-  returns-3 c = rw (item-marker _ _ _ _ (rw (c .before .before .before .before .before .before .before .before .before .before .before .mark .ensures) at (marked-some _ (c .before .before .before .before .before .before .before .before .before .before .marker-kind .ensures) (c .before .before .before .before .before .before .before .before .kind .given .1)))) (c .before .before .before .before .parse-marker .ensures)
+  returns-3 c =
+      let c4 = c .before .before .before .before in
+      let c8 = c4 .before .before .before .before in
+      let c10 = c8 .before .before in
+      let c11 = c10 .before in
+      rw (item-marker _ _ _ _ (rw (c11 .mark .ensures) at (marked-some _ (c10 .marker-kind .ensures) (c8 .kind .given .1)))) (c4 .parse-marker .ensures)
 
   same-length-5 : lts.Need-same-length-5 claims (item-at t) item.Post
   same-length-5 c = search needs
@@ -83,8 +105,15 @@ module _ (t : ℕ) where
   same-length-6 c = search needs
 
   returns-4 : lts.Need-returns-4 claims (item-at t) item.Post
-  returns-4 c = let g = expressed _ _ _ _ _ _ _ _ _ (c .before .before .before .before .before .before .before .parse-suffix .ensures) (c .before .suffixed .given .1) in
-      record { tree = g .tree; gives = item-some _ _ _ _ (rw (c .before .before .before .before .before .before .before .before .before .before .before .before .before .before .before .mark .ensures) at (marked-none _ (c .before .before .before .before .before .before .before .before .before .before .before .before .before .before .marker-kind .ensures) (c .before .before .before .before .before .before .before .before .before .before .before .before .enum-told .given .1))) (sym (c .before .before .before .before .before .before .before .before .before .before .before .ends-sequence .ensures) ∙ c .before .before .before .before .before .before .before .before .before .before .if1 .left) (g .gives); onward = g .onward; lays = g .lays; shown = g .shown }
+  returns-4 c =
+      let c7 = c .before .before .before .before .before .before .before in
+      let c10 = c7 .before .before .before in
+      let c11 = c10 .before in
+      let c12 = c11 .before in
+      let c14 = c12 .before .before in
+      let c15 = c14 .before in
+      let g = expressed _ _ _ _ _ _ _ _ _ (c7 .parse-suffix .ensures) (c .before .suffixed .given .1) in
+      record { tree = g .tree; gives = item-some _ _ _ _ (rw (c15 .mark .ensures) at (marked-none _ (c14 .marker-kind .ensures) (c12 .enum-told .given .1))) (sym (c11 .ends-sequence .ensures) ∙ c10 .if1 .left) (g .gives); onward = g .onward; lays = g .lays; shown = g .shown }
 
   pub met : {M : Type 1} → lts.Closed claims (item-at t) item.Post M
   met = lts.spec claims (item-at t) item.Post mark-requires marker-kind-requires enum-known-kind parse-marker-requires enum-told ends-sequence-requires returns parse-suffix-requires enum-known-suffixed enum-told-2 cause-requires place-requires same-length same-length-2 returns-2 same-length-3 same-length-4 returns-3 same-length-5 same-length-6 returns-4

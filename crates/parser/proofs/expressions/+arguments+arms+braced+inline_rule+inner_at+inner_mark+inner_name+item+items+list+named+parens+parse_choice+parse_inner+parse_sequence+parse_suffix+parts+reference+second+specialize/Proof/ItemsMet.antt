@@ -25,77 +25,79 @@ module _ (t : ℕ) where
   abbrev claims : lts.Claims
   claims = (item-below t, item.Post)
 
-  -- src/expressions.rt:357:5
   loop-holds : lts.Need-loop-holds claims (items-at t) items.Post Inv-loop μ-loop
   loop-holds c = itemizing _ _ _ _ _ _ (c .before .before .before .pre .1 .lies)
 
-  -- src/expressions.rt:358:15
   item-requires : lts.Need-item-requires claims (items-at t) items.Post Inv-loop μ-loop
-  item-requires c κs = (falls-on 17 16 (c .before .before .loop .inv .listing .onward) (c .before .before .before .before .before .before .pre .0) (omega arith), ready-on (c .before .before .before .before .before .before .pre .1) (c .before .before .loop .inv .listing .onward) (c .before .before .loop .inv .listing .lays))
+  item-requires c κs =
+      let c6 = c .before .before .before .before .before .before in
+      (falls-on 17 16 (c .before .before .loop .inv .listing .onward) (c6 .pre .0) (omega arith), ready-on (c6 .pre .1) (c .before .before .loop .inv .listing .onward) (c .before .before .loop .inv .listing .lays))
 
-  -- src/expressions.rt:359:31
   enum-known-cause : lts.Need-enum-known-cause claims (items-at t) items.Post Inv-loop μ-loop
   enum-known-cause c = search needs
 
-  -- src/expressions.rt:360:17
   same-length : lts.Need-same-length claims (items-at t) items.Post Inv-loop μ-loop
   same-length c = omega (arith, c .before .before .before .before .before .before .before .before .before .before .loop .inv .listing .lays .stores .same-words)
 
-  -- src/expressions.rt:360:17
   same-length-2 : lts.Need-same-length-2 claims (items-at t) items.Post Inv-loop μ-loop
   same-length-2 c = omega (arith, c .before .before .before .before .before .before .before .before .before .before .loop .inv .listing .lays .stores .same-texts)
 
-  -- src/expressions.rt:360:17
   returns : lts.Need-returns claims (items-at t) items.Post Inv-loop μ-loop
-  returns c = itemizing-refused (c .before .before .before .before .before .before .before .before .before .before .loop .inv) (item-not _ _ _ _ _ _ _ (c .before .before .before .before .before .before .before .item .ensures) (c .before .cause .given .1))
+  returns c =
+      let c7 = c .before .before .before .before .before .before .before in
+      let c10 = c7 .before .before .before in
+      itemizing-refused (c10 .loop .inv) (item-not _ _ _ _ _ _ _ (c7 .item .ensures) (c .before .cause .given .1))
 
-  -- src/expressions.rt:363:17
   enum-told : lts.Need-enum-told claims (items-at t) items.Post Inv-loop μ-loop
   enum-told c = search needs
 
-  -- src/expressions.rt:363:17
   same-length-3 : lts.Need-same-length-3 claims (items-at t) items.Post Inv-loop μ-loop
   same-length-3 c = omega (arith, c .before .before .before .before .before .before .before .before .before .loop .inv .listing .lays .stores .same-words)
 
-  -- src/expressions.rt:363:17
   same-length-4 : lts.Need-same-length-4 claims (items-at t) items.Post Inv-loop μ-loop
   same-length-4 c = omega (arith, c .before .before .before .before .before .before .before .before .before .loop .inv .listing .lays .stores .same-texts)
 
-  -- src/expressions.rt:363:17
   returns-2 : lts.Need-returns-2 claims (items-at t) items.Post Inv-loop μ-loop
-  returns-2 c = itemizing-over (c .before .before .before .before .before .before .before .before .before .loop .inv) refl (item-over _ _ _ _ _ _ _ (c .before .before .before .before .before .before .item .ensures) (c .enum-told .given .1))
+  returns-2 c =
+      let c6 = c .before .before .before .before .before .before in
+      let c9 = c6 .before .before .before in
+      itemizing-over (c9 .loop .inv) refl (item-over _ _ _ _ _ _ _ (c6 .item .ensures) (c .enum-told .given .1))
 
-  -- src/expressions.rt:365:30
   enum-known-u : lts.Need-enum-known-u claims (items-at t) items.Post Inv-loop μ-loop
   enum-known-u c = search needs
 
-  -- src/expressions.rt:369:17
   add-markers : lts.Need-add-markers claims (items-at t) items.Post Inv-loop μ-loop
-  add-markers c = let k = itemizing-small (c .before .before .before .before .before .before .before .before .before .before .loop .inv) (c .before .before .before .before .before .before .before .before .before .before .before .before .before .before .pre .1 .small) in omega arith
+  add-markers c =
+      let c10 = c .before .before .before .before .before .before .before .before .before .before in
+      let c14 = c10 .before .before .before .before in
+      let k = itemizing-small (c10 .loop .inv) (c14 .pre .1 .small) in omega arith
 
-  -- src/expressions.rt:357:5
   loop-less : lts.Need-loop-less claims (items-at t) items.Post Inv-loop μ-loop
   loop-less c = let y = item-marker-read _ _ _ _ _ _ _ (c .before .before .before .before .before .before .before .item .ensures) (c .before .u .given .1) in let k = y .onward .fewer in omega arith
 
-  -- src/expressions.rt:357:5
   loop-again : lts.Need-loop-again claims (items-at t) items.Post Inv-loop μ-loop
-  loop-again c = itemizing-marker (c .before .before .before .before .before .before .before .before .before .before .loop .inv) (item-marker-read _ _ _ _ _ _ _ (c .before .before .before .before .before .before .before .item .ensures) (c .before .u .given .1))
+  loop-again c =
+      let c7 = c .before .before .before .before .before .before .before in
+      let c10 = c7 .before .before .before in
+      itemizing-marker (c10 .loop .inv) (item-marker-read _ _ _ _ _ _ _ (c7 .item .ensures) (c .before .u .given .1))
 
-  -- src/expressions.rt:371:34
   enum-known-u-2 : lts.Need-enum-known-u-2 claims (items-at t) items.Post Inv-loop μ-loop
   enum-known-u-2 c = search needs
 
-  -- src/expressions.rt:377:17
   add-expressions : lts.Need-add-expressions claims (items-at t) items.Post Inv-loop μ-loop
-  add-expressions c = let k = itemizing-small (c .before .before .before .before .before .before .before .before .before .before .loop .inv) (c .before .before .before .before .before .before .before .before .before .before .before .before .before .before .pre .1 .small) in omega arith
+  add-expressions c =
+      let c10 = c .before .before .before .before .before .before .before .before .before .before in
+      let c14 = c10 .before .before .before .before in
+      let k = itemizing-small (c10 .loop .inv) (c14 .pre .1 .small) in omega arith
 
-  -- src/expressions.rt:357:5
   loop-less-2 : lts.Need-loop-less-2 claims (items-at t) items.Post Inv-loop μ-loop
   loop-less-2 c = let y = item-read _ _ _ _ _ _ _ (c .before .before .before .before .before .before .before .item .ensures) (c .before .u2 .given .1) in let k = y .onward .fewer in omega arith
 
-  -- src/expressions.rt:357:5
   loop-again-2 : lts.Need-loop-again-2 claims (items-at t) items.Post Inv-loop μ-loop
-  loop-again-2 c = itemizing-expression (c .before .before .before .before .before .before .before .before .before .before .loop .inv) (item-read _ _ _ _ _ _ _ (c .before .before .before .before .before .before .before .item .ensures) (c .before .u2 .given .1))
+  loop-again-2 c =
+      let c7 = c .before .before .before .before .before .before .before in
+      let c10 = c7 .before .before .before in
+      itemizing-expression (c10 .loop .inv) (item-read _ _ _ _ _ _ _ (c7 .item .ensures) (c .before .u2 .given .1))
 
   pub met : {M : Type 1} → lts.Closed claims (items-at t) items.Post M
   met = lts.spec claims (items-at t) items.Post Inv-loop μ-loop loop-holds item-requires enum-known-cause same-length same-length-2 returns enum-told same-length-3 same-length-4 returns-2 enum-known-u add-markers loop-less loop-again enum-known-u-2 add-expressions loop-less-2 loop-again-2

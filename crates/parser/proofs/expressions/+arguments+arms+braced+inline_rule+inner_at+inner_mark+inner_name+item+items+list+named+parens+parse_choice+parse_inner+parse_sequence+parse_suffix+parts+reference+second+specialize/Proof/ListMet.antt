@@ -49,7 +49,11 @@ module _ (t : ℕ) where
   same-length-2 c = omega (arith, c .before .before .before .before .loop .inv .lays .stores .same-texts)
 
   returns : lts.Need-returns claims (list-at t) list.Post Inv-loop μ-loop
-  returns c = list-closed ">" Must (λ _. choiceAt (c .before .before .before .before .before .before .before .before .args .left)) (c .before .before .before .before .loop .inv) _ (c .before .before .before .opening .ensures) (c .before .u .given .1) (omega arith)
+  returns c =
+      let c3 = c .before .before .before in
+      let c4 = c3 .before in
+      let c8 = c4 .before .before .before .before in
+      list-closed ">" Must (λ _. choiceAt (c8 .args .left)) (c4 .loop .inv) _ (c3 .opening .ensures) (c .before .u .given .1) (omega arith)
 
   enum-known-cause : lts.Need-enum-known-cause claims (list-at t) list.Post Inv-loop μ-loop
   enum-known-cause c = search needs
@@ -61,13 +65,22 @@ module _ (t : ℕ) where
   same-length-4 c = omega (arith, c .before .before .before .before .loop .inv .lays .stores .same-texts)
 
   returns-2 : lts.Need-returns-2 claims (list-at t) list.Post Inv-loop μ-loop
-  returns-2 c = list-refused ">" Must (λ _. choiceAt (c .before .before .before .before .before .before .before .before .args .left)) (c .before .before .before .before .loop .inv) _ (c .before .before .before .opening .ensures) (c .before .cause .given .1)
+  returns-2 c =
+      let c3 = c .before .before .before in
+      let c4 = c3 .before in
+      let c8 = c4 .before .before .before .before in
+      list-refused ">" Must (λ _. choiceAt (c8 .args .left)) (c4 .loop .inv) _ (c3 .opening .ensures) (c .before .cause .given .1)
 
   enum-known-u-2 : lts.Need-enum-known-u-2 claims (list-at t) list.Post Inv-loop μ-loop
   enum-known-u-2 c = search needs
 
   parse-choice-requires : lts.Need-parse-choice-requires claims (list-at t) list.Post Inv-loop μ-loop
-  parse-choice-requires c κs = let o = item-onward ">" (c .before .before .before .before .before .opening .ensures) (c .before .before .before .u2 .given .1) in (falls-on 21 20 (onward-then (c .before .before .before .before .before .before .loop .inv .onward) o) (c .before .before .before .before .before .before .before .before .before .before .pre .0) (omega arith), argument-ready (c .before .before .before .before .before .before .before .before .before .before .args .left) (c .before .before .before .before .before .before .before .before .before .before .pre .1) (c .before .before .before .before .before .before .loop .inv) o)
+  parse-choice-requires c κs =
+      let c3 = c .before .before .before in
+      let c5 = c3 .before .before in
+      let c6 = c5 .before in
+      let c10 = c6 .before .before .before .before in
+      let o = item-onward ">" (c5 .opening .ensures) (c3 .u2 .given .1) in (falls-on 21 20 (onward-then (c6 .loop .inv .onward) o) (c10 .pre .0) (omega arith), argument-ready (c10 .args .left) (c10 .pre .1) (c6 .loop .inv) o)
 
   enum-known-argument : lts.Need-enum-known-argument claims (list-at t) list.Post Inv-loop μ-loop
   enum-known-argument c = search needs
@@ -88,16 +101,37 @@ module _ (t : ℕ) where
   same-length-6 c = omega (arith, c .before .before .before .before .before .before .before .before .before .before .before .before .before .before .before .loop .inv .lays .stores .same-texts)
 
   returns-3 : lts.Need-returns-3 claims (list-at t) list.Post Inv-loop μ-loop
-  returns-3 c = argument-refused (c .before .before .before .before .before .before .before .before .before .before .before .before .before .before .before .before .before .before .before .args .left) (c .before .before .before .before .before .before .before .before .before .before .before .before .before .before .before .loop .inv) _ (c .before .before .before .before .before .before .before .before .before .before .before .before .before .before .opening .ensures) (c .before .before .before .before .before .before .before .before .before .before .before .before .u2 .given .1) (expressed-not _ _ _ _ _ _ _ _ _ (c .before .before .before .before .before .before .before .before .parse-choice .ensures) (expressed-told (c .before .before .enum-told .given .1) (c .before .cause2 .ensures) (c .place .ensures)))
+  returns-3 c =
+      let c8 = c .before .before .before .before .before .before .before .before in
+      let c12 = c8 .before .before .before .before in
+      let c14 = c12 .before .before in
+      let c15 = c14 .before in
+      let c19 = c15 .before .before .before .before in
+      argument-refused (c19 .args .left) (c15 .loop .inv) _ (c14 .opening .ensures) (c12 .u2 .given .1) (expressed-not _ _ _ _ _ _ _ _ _ (c8 .parse-choice .ensures) (expressed-told (c .before .before .enum-told .given .1) (c .before .cause2 .ensures) (c .place .ensures)))
 
   add-count : lts.Need-add-count claims (list-at t) list.Post Inv-loop μ-loop
-  add-count c = omega (arith, listing-small expressionBranch (c .before .before .before .before .before .before .before .before .before .before .before .before .before .before .loop .inv) (c .before .before .before .before .before .before .before .before .before .before .before .before .before .before .before .before .before .before .pre .1 .small) (omega arith))
+  add-count c =
+      let c14 = c .before .before .before .before .before .before .before .before .before .before .before .before .before .before in
+      let c18 = c14 .before .before .before .before in
+      omega (arith, listing-small expressionBranch (c14 .loop .inv) (c18 .pre .1 .small) (omega arith))
 
   loop-less : lts.Need-loop-less claims (list-at t) list.Post Inv-loop μ-loop
-  loop-less c = argument-more (c .before .before .before .before .before .before .before .before .before .before .before .before .before .before .before .before .before .before .args .left) (c .before .before .before .before .before .before .before .before .before .before .before .before .before .before .loop .inv) _ (c .before .before .before .before .before .before .before .before .before .before .before .before .before .opening .ensures) (c .before .before .before .before .before .before .before .before .before .before .before .u2 .given .1) (expressed _ _ _ _ _ _ _ _ _ (c .before .before .before .before .before .before .before .parse-choice .ensures) (c .before .argument .given .1)) .1
+  loop-less c =
+      let c7 = c .before .before .before .before .before .before .before in
+      let c11 = c7 .before .before .before .before in
+      let c13 = c11 .before .before in
+      let c14 = c13 .before in
+      let c18 = c14 .before .before .before .before in
+      argument-more (c18 .args .left) (c14 .loop .inv) _ (c13 .opening .ensures) (c11 .u2 .given .1) (expressed _ _ _ _ _ _ _ _ _ (c7 .parse-choice .ensures) (c .before .argument .given .1)) .1
 
   loop-again : lts.Need-loop-again claims (list-at t) list.Post Inv-loop μ-loop
-  loop-again c = argument-more (c .before .before .before .before .before .before .before .before .before .before .before .before .before .before .before .before .before .before .args .left) (c .before .before .before .before .before .before .before .before .before .before .before .before .before .before .loop .inv) _ (c .before .before .before .before .before .before .before .before .before .before .before .before .before .opening .ensures) (c .before .before .before .before .before .before .before .before .before .before .before .u2 .given .1) (expressed _ _ _ _ _ _ _ _ _ (c .before .before .before .before .before .before .before .parse-choice .ensures) (c .before .argument .given .1)) .0
+  loop-again c =
+      let c7 = c .before .before .before .before .before .before .before in
+      let c11 = c7 .before .before .before .before in
+      let c13 = c11 .before .before in
+      let c14 = c13 .before in
+      let c18 = c14 .before .before .before .before in
+      argument-more (c18 .args .left) (c14 .loop .inv) _ (c13 .opening .ensures) (c11 .u2 .given .1) (expressed _ _ _ _ _ _ _ _ _ (c7 .parse-choice .ensures) (c .before .argument .given .1)) .0
 
   pub met : {M : Type 1} → lts.Closed claims (list-at t) list.Post M
   met = lts.spec claims (list-at t) list.Post Inv-loop μ-loop loop-holds opening-requires enum-known-u same-length same-length-2 returns enum-known-cause same-length-3 same-length-4 returns-2 enum-known-u-2 parse-choice-requires enum-known-argument enum-told cause-requires place-requires same-length-5 same-length-6 returns-3 add-count loop-less loop-again

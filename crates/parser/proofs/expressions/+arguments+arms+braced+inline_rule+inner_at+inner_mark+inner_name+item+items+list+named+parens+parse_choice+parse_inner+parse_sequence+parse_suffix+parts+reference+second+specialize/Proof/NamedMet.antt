@@ -19,77 +19,88 @@ module _ (t : ℕ) where
   abbrev claims : lts.Claims
   claims = (mark-reads.Asked, mark-reads.Learnt, inline-rule-below t, inline-rule.Post, is-std-reads.Asked, is-std-reads.Learnt, std-class-reads.Asked, std-class-reads.Learnt, reference-below t, reference.Post)
 
-  -- src/expressions.rt:132:11
   mark-requires : lts.Need-mark-requires claims (named-at t) named.Post
   mark-requires c κs = search needs
 
-  -- src/expressions.rt:133:17
   inline-rule-requires : lts.Need-inline-rule-requires claims (named-at t) named.Post
-  inline-rule-requires c κs = (falls-on 13 12 (behind-here (c .before .before .before .before .before .before .before .pre .1 .1)) (c .before .before .before .before .before .before .before .pre .0) (omega arith), (c .before .before .before .before .before .before .before .pre .1 .0, (c .before .before .before .before .before .before .before .pre .1 .2, c .before .before .before .before .before .before .before .pre .1 .1)))
+  inline-rule-requires c κs =
+      let c7 = c .before .before .before .before .before .before .before in
+      (falls-on 13 12 (behind-here (c7 .pre .1 .1)) (c7 .pre .0) (omega arith), (c7 .pre .1 .0, (c7 .pre .1 .2, c7 .pre .1 .1)))
 
-  -- src/expressions.rt:134:17
   inline-rule-requires-2 : lts.Need-inline-rule-requires-2 claims (named-at t) named.Post
-  inline-rule-requires-2 c κs = (falls-on 13 12 (behind-here (c .before .before .before .before .before .before .before .pre .1 .1)) (c .before .before .before .before .before .before .before .pre .0) (omega arith), (c .before .before .before .before .before .before .before .pre .1 .0, (c .before .before .before .before .before .before .before .pre .1 .2, c .before .before .before .before .before .before .before .pre .1 .1)))
+  inline-rule-requires-2 c κs =
+      let c7 = c .before .before .before .before .before .before .before in
+      (falls-on 13 12 (behind-here (c7 .pre .1 .1)) (c7 .pre .0) (omega arith), (c7 .pre .1 .0, (c7 .pre .1 .2, c7 .pre .1 .1)))
 
-  -- src/expressions.rt:136:16
   is-std-requires : lts.Need-is-std-requires claims (named-at t) named.Post
   is-std-requires c κs = name-in (c .before .before .before .before .before .pre .1 .0) (c .before .before .before .before .before .pre .1 .2) .part
 
-  -- src/expressions.rt:137:17
   std-class-requires : lts.Need-std-class-requires claims (named-at t) named.Post
-  std-class-requires c κs = (c .before .before .before .before .before .before .before .before .before .pre .1 .0, c .before .before .before .before .before .before .before .before .before .pre .1 .1 .on, std-dot _ (c .before .before .before .before .before .before .before .before .before .args .token) (sym (c .before .before .before .is-std .ensures) ∙ c .before .before .if1 .taken))
+  std-class-requires c κs =
+      let c3 = c .before .before .before in
+      let c9 = c3 .before .before .before .before .before .before in
+      (c9 .pre .1 .0, c9 .pre .1 .1 .on, std-dot _ (c9 .args .token) (sym (c3 .is-std .ensures) ∙ c .before .before .if1 .taken))
 
-  -- src/expressions.rt:137:17
   same-length : lts.Need-same-length claims (named-at t) named.Post
   same-length c = search needs
 
-  -- src/expressions.rt:137:17
   same-length-2 : lts.Need-same-length-2 claims (named-at t) named.Post
   same-length-2 c = search needs
 
-  -- src/expressions.rt:137:17
   returns : lts.Need-returns claims (named-at t) named.Post
-  returns c = expresses-as _ _ _ _ _ _ _ _ _ (c .before .before .before .before .std-class .result) (c .before .before .before .before .std-class .ensures) (named-std _ _ _ _ _ _ (λ q. c .before .before .before .before .before .before .before .before .before .match .rest .0 .1 (c .before .before .before .before .before .before .before .before .before .before .mark .ensures ∙ q)) (λ q. c .before .before .before .before .before .before .before .before .before .match .rest .1 (c .before .before .before .before .before .before .before .before .before .before .mark .ensures ∙ q)) (sym (c .before .before .before .before .before .before .before .before .is-std .ensures) ∙ c .before .before .before .before .before .before .before .if1 .taken))
+  returns c =
+      let c4 = c .before .before .before .before in
+      let c7 = c4 .before .before .before in
+      let c8 = c7 .before in
+      let c9 = c8 .before in
+      let c10 = c9 .before in
+      expresses-as _ _ _ _ _ _ _ _ _ (c4 .std-class .result) (c4 .std-class .ensures) (named-std _ _ _ _ _ _ (λ q. c9 .match .rest .0 .1 (c10 .mark .ensures ∙ q)) (λ q. c9 .match .rest .1 (c10 .mark .ensures ∙ q)) (sym (c8 .is-std .ensures) ∙ c7 .if1 .taken))
 
-  -- src/expressions.rt:139:13
   reference-requires : lts.Need-reference-requires claims (named-at t) named.Post
-  reference-requires c κs = (falls-on 13 12 (behind-here (c .before .before .before .before .before .before .before .before .before .pre .1 .1)) (c .before .before .before .before .before .before .before .before .before .pre .0) (omega arith), (c .before .before .before .before .before .before .before .before .before .pre .1 .0, c .before .before .before .before .before .before .before .before .before .pre .1 .1, c .before .before .before .before .before .before .before .before .before .pre .1 .2))
+  reference-requires c κs =
+      let c9 = c .before .before .before .before .before .before .before .before .before in
+      (falls-on 13 12 (behind-here (c9 .pre .1 .1)) (c9 .pre .0) (omega arith), (c9 .pre .1 .0, c9 .pre .1 .1, c9 .pre .1 .2))
 
-  -- src/expressions.rt:127:1
   same-length-3 : lts.Need-same-length-3 claims (named-at t) named.Post
   same-length-3 c = search needs
 
-  -- src/expressions.rt:127:1
   same-length-4 : lts.Need-same-length-4 claims (named-at t) named.Post
   same-length-4 c = search needs
 
-  -- src/expressions.rt:127:1
   returns-2 : lts.Need-returns-2 claims (named-at t) named.Post
-  returns-2 c = expresses-as _ _ _ _ _ _ _ _ _ (c .before .before .before .before .inline-rule .result) (c .before .before .before .before .inline-rule .ensures) (named-bracket _ _ _ _ _ _ (sym (c .before .before .before .before .before .before .before .before .mark .ensures) ∙ c .before .before .before .before .before .before .before .match .keys1))
+  returns-2 c =
+      let c4 = c .before .before .before .before in
+      let c7 = c4 .before .before .before in
+      let c8 = c7 .before in
+      expresses-as _ _ _ _ _ _ _ _ _ (c4 .inline-rule .result) (c4 .inline-rule .ensures) (named-bracket _ _ _ _ _ _ (sym (c8 .mark .ensures) ∙ c7 .match .keys1))
 
-  -- src/expressions.rt:127:1
   same-length-5 : lts.Need-same-length-5 claims (named-at t) named.Post
   same-length-5 c = search needs
 
-  -- src/expressions.rt:127:1
   same-length-6 : lts.Need-same-length-6 claims (named-at t) named.Post
   same-length-6 c = search needs
 
-  -- src/expressions.rt:127:1
   returns-3 : lts.Need-returns-3 claims (named-at t) named.Post
-  returns-3 c = expresses-as _ _ _ _ _ _ _ _ _ (c .before .before .before .before .inline-rule2 .result) (c .before .before .before .before .inline-rule2 .ensures) (named-brace _ _ _ _ _ _ (sym (c .before .before .before .before .before .before .before .before .mark .ensures) ∙ c .before .before .before .before .before .before .before .match .keys2))
+  returns-3 c =
+      let c4 = c .before .before .before .before in
+      let c7 = c4 .before .before .before in
+      let c8 = c7 .before in
+      expresses-as _ _ _ _ _ _ _ _ _ (c4 .inline-rule2 .result) (c4 .inline-rule2 .ensures) (named-brace _ _ _ _ _ _ (sym (c8 .mark .ensures) ∙ c7 .match .keys2))
 
-  -- src/expressions.rt:127:1
   same-length-7 : lts.Need-same-length-7 claims (named-at t) named.Post
   same-length-7 c = search needs
 
-  -- src/expressions.rt:127:1
   same-length-8 : lts.Need-same-length-8 claims (named-at t) named.Post
   same-length-8 c = search needs
 
-  -- src/expressions.rt:127:1
   returns-4 : lts.Need-returns-4 claims (named-at t) named.Post
-  returns-4 c = expresses-as _ _ _ _ _ _ _ _ _ (c .before .before .before .before .reference .result) (c .before .before .before .before .reference .ensures) (named-plain _ _ _ _ _ _ (λ q. c .before .before .before .before .before .before .before .before .before .match .rest .0 .1 (c .before .before .before .before .before .before .before .before .before .before .mark .ensures ∙ q)) (λ q. c .before .before .before .before .before .before .before .before .before .match .rest .1 (c .before .before .before .before .before .before .before .before .before .before .mark .ensures ∙ q)) (sym (c .before .before .before .before .before .before .before .before .is-std .ensures) ∙ c .before .before .before .before .before .before .before .if1 .left))
+  returns-4 c =
+      let c4 = c .before .before .before .before in
+      let c7 = c4 .before .before .before in
+      let c8 = c7 .before in
+      let c9 = c8 .before in
+      let c10 = c9 .before in
+      expresses-as _ _ _ _ _ _ _ _ _ (c4 .reference .result) (c4 .reference .ensures) (named-plain _ _ _ _ _ _ (λ q. c9 .match .rest .0 .1 (c10 .mark .ensures ∙ q)) (λ q. c9 .match .rest .1 (c10 .mark .ensures ∙ q)) (sym (c8 .is-std .ensures) ∙ c7 .if1 .left))
 
   pub met : {M : Type 1} → lts.Closed claims (named-at t) named.Post M
   met = lts.spec claims (named-at t) named.Post mark-requires inline-rule-requires inline-rule-requires-2 is-std-requires std-class-requires same-length same-length-2 returns reference-requires same-length-3 same-length-4 returns-2 same-length-5 same-length-6 returns-3 same-length-7 same-length-8 returns-4

@@ -41,7 +41,9 @@ module _ (t : ℕ) where
   start-requires c κs = search needs
 
   put-plain-requires : lts.Need-put-plain-requires claims (parens-at t) parens.Post
-  put-plain-requires c κs = put-plain-asks (c .before .before .before .before .before .before .before .before .before .pre .1 .0) (c .before .before .before .before .before .before .before .before .before .pre .1 .0) (c .start .ensures) (omega arith)
+  put-plain-requires c κs =
+      let c9 = c .before .before .before .before .before .before .before .before .before in
+      put-plain-asks (c9 .pre .1 .0) (c9 .pre .1 .0) (c .start .ensures) (omega arith)
 
   start-requires-2 : lts.Need-start-requires-2 claims (parens-at t) parens.Post
   start-requires-2 c κs = search needs
@@ -50,7 +52,9 @@ module _ (t : ℕ) where
   enum-told c = search needs
 
   parse-choice-requires : lts.Need-parse-choice-requires claims (parens-at t) parens.Post
-  parse-choice-requires c κs = (omega (arith, c .before .before .before .before .before .before .before .before .pre .0), ready-step (c .before .before .before .before .before .before .before .before .pre .1 .0) (c .before .before .before .before .before .before .before .before .pre .1 .1))
+  parse-choice-requires c κs =
+      let c8 = c .before .before .before .before .before .before .before .before in
+      (omega (arith, c8 .pre .0), ready-step (c8 .pre .1 .0) (c8 .pre .1 .1))
 
   enum-known-inside : lts.Need-enum-known-inside claims (parens-at t) parens.Post
   enum-known-inside c = search needs
@@ -65,7 +69,11 @@ module _ (t : ℕ) where
   same-length-2 c = search needs
 
   returns : lts.Need-returns claims (parens-at t) parens.Post
-  returns c = rw (c .enum-told2 .given .1) (paren-below _ _ _ (eat-no _ ")" _ _ (c .before .before .before .before .before .before .before .before .before .before .before .eat-punctuation .ensures) (c .before .before .before .before .before .before .before .before .before .enum-told .given .1)) (expressed-not _ _ _ _ _ _ _ _ _ (c .before .before .before .before .before .before .parse-choice .ensures) (c .enum-told2 .given .1)))
+  returns c =
+      let c6 = c .before .before .before .before .before .before in
+      let c9 = c6 .before .before .before in
+      let c11 = c9 .before .before in
+      rw (c .enum-told2 .given .1) (paren-below _ _ _ (eat-no _ ")" _ _ (c11 .eat-punctuation .ensures) (c9 .enum-told .given .1)) (expressed-not _ _ _ _ _ _ _ _ _ (c6 .parse-choice .ensures) (c .enum-told2 .given .1)))
 
   expect-punctuation-requires : lts.Need-expect-punctuation-requires claims (parens-at t) parens.Post
   expect-punctuation-requires c κs = search needs
@@ -89,7 +97,13 @@ module _ (t : ℕ) where
   same-length-4 c = search needs
 
   returns-2 : lts.Need-returns-2 claims (parens-at t) parens.Post
-  returns-2 c = paren-close _ _ _ (eat-no _ ")" _ _ (c .before .before .before .before .before .before .before .before .before .before .before .before .before .before .before .before .before .eat-punctuation .ensures) (c .before .before .before .before .before .before .before .before .before .before .before .before .before .before .before .enum-told .given .1)) (expressed _ _ _ _ _ _ _ _ _ (c .before .before .before .before .before .before .before .before .before .before .before .before .parse-choice .ensures) (c .before .before .before .before .before .before .inside .given .1) .gives) (expect-not _ ")" _ _ (c .before .before .before .before .expect-punctuation .ensures) (arrived-told (c .before .before .enum-told3 .given .1) (c .before .cause2 .ensures) (c .place .ensures)))
+  returns-2 c =
+      let c4 = c .before .before .before .before in
+      let c6 = c4 .before .before in
+      let c12 = c6 .before .before .before .before .before .before in
+      let c15 = c12 .before .before .before in
+      let c17 = c15 .before .before in
+      paren-close _ _ _ (eat-no _ ")" _ _ (c17 .eat-punctuation .ensures) (c15 .enum-told .given .1)) (expressed _ _ _ _ _ _ _ _ _ (c12 .parse-choice .ensures) (c6 .inside .given .1) .gives) (expect-not _ ")" _ _ (c4 .expect-punctuation .ensures) (arrived-told (c .before .before .enum-told3 .given .1) (c .before .cause2 .ensures) (c .place .ensures)))
 
   returns-3 : lts.Need-returns-3 claims (parens-at t) parens.Post
   returns-3 c = paren-refused _ _ _ (eat-not _ ")" _ _ (c .before .before .before .eat-punctuation .ensures) (c .before .cause .given .1))
@@ -98,14 +112,20 @@ module _ (t : ℕ) where
   same-length-5 c = search needs
 
   returns-4 : lts.Need-returns-4 claims (parens-at t) parens.Post
-  returns-4 c = let q = eat-onward _ ")" _ _ _ (omega arith) (c .before .before .before .before .before .before .before .before .before .before .before .before .before .pre .1 .1 .lies) (c .before .before .before .before .before .before .before .before .before .eat-punctuation .ensures) (c .before .before .before .before .before .before .before .u .given .1) in
-      let o = onward-then (c .before .before .before .before .before .before .before .before .before .before .before .before .before .pre .1 .1) q in
+  returns-4 c =
+      let c3 = c .before .before .before in
+      let c4 = c3 .before in
+      let c7 = c4 .before .before .before in
+      let c9 = c7 .before .before in
+      let c13 = c9 .before .before .before .before in
+      let q = eat-onward _ ")" _ _ _ (omega arith) (c13 .pre .1 .1 .lies) (c9 .eat-punctuation .ensures) (c7 .u .given .1) in
+      let o = onward-then (c13 .pre .1 .1) q in
       let x = o .ahead in
       let z = no-texts in
       rw (c .start2 .ensures) (
-      yields-least 1 (yields-over (Expression.empty (startIn (c .before .before .before .before .before .before .before .before .before .before .before .before .before .args .first))) 0 (paren-empty _ _ _ (eat-yes _ ")" _ _ (c .before .before .before .before .before .before .before .before .before .eat-punctuation .ensures) (c .before .before .before .before .before .before .before .u .given .1))) o (stores-none _)
-      (rw (c .before .before .before .before .start .ensures) at (c .before .before .before .put-plain .ensures) .stores (c .before .before .before .before .before .before .before .before .before .before .before .before .before .args .x) _) (nodes-empty (startIn (c .before .before .before .before .before .before .before .before .before .before .before .before .before .args .first))) (omega arith) (omega arith)
-      (shown-empty _ _ _ (startIn (c .before .before .before .before .before .before .before .before .before .before .before .before .before .args .first)) (ready-start (c .before .before .before .before .before .before .before .before .before .before .before .before .before .pre .1 .0)))) (omega arith))
+      yields-least 1 (yields-over (Expression.empty (startIn (c13 .args .first))) 0 (paren-empty _ _ _ (eat-yes _ ")" _ _ (c9 .eat-punctuation .ensures) (c7 .u .given .1))) o (stores-none _)
+      (rw (c4 .start .ensures) at (c3 .put-plain .ensures) .stores (c13 .args .x) _) (nodes-empty (startIn (c13 .args .first))) (omega arith) (omega arith)
+      (shown-empty _ _ _ (startIn (c13 .args .first)) (ready-start (c13 .pre .1 .0)))) (omega arith))
 
   same-length-6 : lts.Need-same-length-6 claims (parens-at t) parens.Post
   same-length-6 c = search needs
@@ -114,9 +134,16 @@ module _ (t : ℕ) where
   same-length-7 c = search needs
 
   returns-5 : lts.Need-returns-5 claims (parens-at t) parens.Post
-  returns-5 c = let g = expressed _ _ _ _ _ _ _ _ _ (c .before .before .before .before .before .before .before .before .before .before .before .parse-choice .ensures) (c .before .before .before .before .before .inside .given .1) in
-      let q = expect-onward _ ")" _ _ _ (omega arith) (g .onward .lies) (c .before .before .before .expect-punctuation .ensures) (c .before .closed .given .1) in
-      yields-least 1 (yields-within g (c .before .before .before .before .before .before .before .before .before .before .before .before .before .before .before .before .before .before .before .before .pre .1 .1) q (paren-done _ _ _ (eat-no _ ")" _ _ (c .before .before .before .before .before .before .before .before .before .before .before .before .before .before .before .before .eat-punctuation .ensures) (c .before .before .before .before .before .before .before .before .before .before .before .before .before .before .enum-told .given .1)) (g .gives) (expect-at _ ")" _ _ (c .before .before .before .expect-punctuation .ensures) (c .before .closed .given .1))) (omega arith)) (omega arith)
+  returns-5 c =
+      let c3 = c .before .before .before in
+      let c5 = c3 .before .before in
+      let c11 = c5 .before .before .before .before .before .before in
+      let c14 = c11 .before .before .before in
+      let c16 = c14 .before .before in
+      let c20 = c16 .before .before .before .before in
+      let g = expressed _ _ _ _ _ _ _ _ _ (c11 .parse-choice .ensures) (c5 .inside .given .1) in
+      let q = expect-onward _ ")" _ _ _ (omega arith) (g .onward .lies) (c3 .expect-punctuation .ensures) (c .before .closed .given .1) in
+      yields-least 1 (yields-within g (c20 .pre .1 .1) q (paren-done _ _ _ (eat-no _ ")" _ _ (c16 .eat-punctuation .ensures) (c14 .enum-told .given .1)) (g .gives) (expect-at _ ")" _ _ (c3 .expect-punctuation .ensures) (c .before .closed .given .1))) (omega arith)) (omega arith)
 
   pub met : {M : Type 1} → lts.Closed claims (parens-at t) parens.Post M
   met = lts.spec claims (parens-at t) parens.Post eat-punctuation-requires enum-known-cause enum-known-u start-requires put-plain-requires start-requires-2 enum-told parse-choice-requires enum-known-inside enum-told-2 same-length same-length-2 returns expect-punctuation-requires enum-known-closed enum-told-3 cause-requires place-requires same-length-3 same-length-4 returns-2 returns-3 same-length-5 returns-4 same-length-6 same-length-7 returns-5

@@ -49,13 +49,20 @@ module _ (t : ℕ) where
   same-length-2 c = search needs
 
   returns-2 : lts.Need-returns-2 claims (parse-choice-at t) parse-choice.Post
-  returns-2 c = rw (c .enum-told .given .1) (choice-sequence _ _ (c .before .before .before .before .before .before .before .before .before .if1 .left) (expressed-not _ _ _ _ _ _ _ _ _ (c .before .before .before .before .before .before .parse-sequence .ensures) (c .enum-told .given .1)))
+  returns-2 c =
+      let c6 = c .before .before .before .before .before .before in
+      let c9 = c6 .before .before .before in
+      rw (c .enum-told .given .1) (choice-sequence _ _ (c9 .if1 .left) (expressed-not _ _ _ _ _ _ _ _ _ (c6 .parse-sequence .ensures) (c .enum-told .given .1)))
 
   sub-arms : lts.Need-sub-arms claims (parse-choice-at t) parse-choice.Post
   sub-arms c = omega (arith, c .before .before .before .before .before .before .before .before .before .before .if1 .left)
 
   arms-requires : lts.Need-arms-requires claims (parse-choice-at t) parse-choice.Post
-  arms-requires c κs = let g = expressed _ _ _ _ _ _ _ _ _ (c .before .before .before .before .before .before .before .before .before .parse-sequence .ensures) (c .before .before .before .first .given .1) in (falls-on 20 19 (g .onward) (c .before .before .before .before .before .before .before .before .before .before .before .before .before .before .before .before .pre .0) (omega arith), arms-ready (c .before .before .before .before .before .before .before .before .before .before .before .before .before .before .before .before .pre .1) g)
+  arms-requires c κs =
+      let c3 = c .before .before .before in
+      let c9 = c3 .before .before .before .before .before .before in
+      let c16 = c9 .before .before .before .before .before .before .before in
+      let g = expressed _ _ _ _ _ _ _ _ _ (c9 .parse-sequence .ensures) (c3 .first .given .1) in (falls-on 20 19 (g .onward) (c16 .pre .0) (omega arith), arms-ready (c16 .pre .1) g)
 
   enum-known-others : lts.Need-enum-known-others claims (parse-choice-at t) parse-choice.Post
   enum-known-others c = search needs
@@ -76,7 +83,12 @@ module _ (t : ℕ) where
   same-length-4 c = search needs
 
   returns-3 : lts.Need-returns-3 claims (parse-choice-at t) parse-choice.Post
-  returns-3 c = choice-arms _ _ (c .before .before .before .before .before .before .before .before .before .before .before .before .before .before .before .before .before .before .before .before .before .if1 .left) (expressed _ _ _ _ _ _ _ _ _ (c .before .before .before .before .before .before .before .before .before .before .before .before .before .before .before .before .before .before .parse-sequence .ensures) (c .before .before .before .before .before .before .before .before .before .before .before .before .first .given .1) .gives) (arms-not _ _ _ _ _ _ _ (c .before .before .before .before .before .before .before .before .arms .ensures) (arms-told (c .before .before .enum-told2 .given .1) (c .before .cause .ensures) (c .place .ensures)))
+  returns-3 c =
+      let c8 = c .before .before .before .before .before .before .before .before in
+      let c12 = c8 .before .before .before .before in
+      let c18 = c12 .before .before .before .before .before .before in
+      let c21 = c18 .before .before .before in
+      choice-arms _ _ (c21 .if1 .left) (expressed _ _ _ _ _ _ _ _ _ (c18 .parse-sequence .ensures) (c12 .first .given .1) .gives) (arms-not _ _ _ _ _ _ _ (c8 .arms .ensures) (arms-told (c .before .before .enum-told2 .given .1) (c .before .cause .ensures) (c .place .ensures)))
 
   same-length-5 : lts.Need-same-length-5 claims (parse-choice-at t) parse-choice.Post
   same-length-5 c = search needs
@@ -85,7 +97,12 @@ module _ (t : ℕ) where
   same-length-6 c = search needs
 
   returns-4 : lts.Need-returns-4 claims (parse-choice-at t) parse-choice.Post
-  returns-4 c = let g = expressed _ _ _ _ _ _ _ _ _ (c .before .before .before .before .before .before .before .before .before .before .before .before .before .before .before .before .before .before .parse-sequence .ensures) (c .before .before .before .before .before .before .before .before .before .before .before .before .first .given .1) in let y = arms-read _ _ _ _ _ _ _ (c .before .before .before .before .before .before .before .before .arms .ensures) (c .before .before .others .given .1) in choice-alone g y (choice-one _ _ (c .before .before .before .before .before .before .before .before .before .before .before .before .before .before .before .before .before .before .before .before .before .if1 .left) (g .gives) (y .lists .gives) (y .lists .counted ∙ c .if2 .taken)) (c .if2 .taken)
+  returns-4 c =
+      let c8 = c .before .before .before .before .before .before .before .before in
+      let c12 = c8 .before .before .before .before in
+      let c18 = c12 .before .before .before .before .before .before in
+      let c21 = c18 .before .before .before in
+      let g = expressed _ _ _ _ _ _ _ _ _ (c18 .parse-sequence .ensures) (c12 .first .given .1) in let y = arms-read _ _ _ _ _ _ _ (c8 .arms .ensures) (c .before .before .others .given .1) in choice-alone g y (choice-one _ _ (c21 .if1 .left) (g .gives) (y .lists .gives) (y .lists .counted ∙ c .if2 .taken)) (c .if2 .taken)
 
   first-of-requires : lts.Need-first-of-requires claims (parse-choice-at t) parse-choice.Post
   first-of-requires c κs = search needs
@@ -100,10 +117,22 @@ module _ (t : ℕ) where
   start-requires-2 c κs = search needs
 
   add-put-plain : lts.Need-add-put-plain claims (parse-choice-at t) parse-choice.Post
-  add-put-plain c = let k = choice-ready (expressed _ _ _ _ _ _ _ _ _ (c .before .before .before .before .before .before .before .before .before .before .before .before .before .before .before .before .before .before .before .before .before .before .before .parse-sequence .ensures) (c .before .before .before .before .before .before .before .before .before .before .before .before .before .before .before .before .before .first .given .1)) (arms-read _ _ _ _ _ _ _ (c .before .before .before .before .before .before .before .before .before .before .before .before .before .arms .ensures) (c .before .before .before .before .before .before .before .others .given .1)) (c .before .before .before .before .before .before .before .before .before .before .before .before .before .before .before .before .before .before .before .before .before .before .before .before .before .before .before .before .before .before .pre .1) refl refl in omega arith
+  add-put-plain c =
+      let c7 = c .before .before .before .before .before .before .before in
+      let c13 = c7 .before .before .before .before .before .before in
+      let c17 = c13 .before .before .before .before in
+      let c23 = c17 .before .before .before .before .before .before in
+      let c30 = c23 .before .before .before .before .before .before .before in
+      let k = choice-ready (expressed _ _ _ _ _ _ _ _ _ (c23 .parse-sequence .ensures) (c17 .first .given .1)) (arms-read _ _ _ _ _ _ _ (c13 .arms .ensures) (c7 .others .given .1)) (c30 .pre .1) refl refl in omega arith
 
   put-plain-requires : lts.Need-put-plain-requires claims (parse-choice-at t) parse-choice.Post
-  put-plain-requires c κs = let k = choice-ready (expressed _ _ _ _ _ _ _ _ _ (c .before .before .before .before .before .before .before .before .before .before .before .before .before .before .before .before .before .before .before .before .before .before .before .parse-sequence .ensures) (c .before .before .before .before .before .before .before .before .before .before .before .before .before .before .before .before .before .first .given .1)) (arms-read _ _ _ _ _ _ _ (c .before .before .before .before .before .before .before .before .before .before .before .before .before .arms .ensures) (c .before .before .before .before .before .before .before .others .given .1)) (c .before .before .before .before .before .before .before .before .before .before .before .before .before .before .before .before .before .before .before .before .before .before .before .before .before .before .before .before .before .before .pre .1) refl refl in let z = ready-start (c .before .before .before .before .before .before .before .before .before .before .before .before .before .before .before .before .before .before .before .before .before .before .before .before .before .before .before .before .before .before .pre .1) in let w = c .before .before .before .before .before .before .before .before .before .before .before .before .before .before .before .before .before .before .before .before .before .before .before .before .before .before .before .before .before .before .pre .1 .small in (omega arith, rw (c .start2 .ensures) (omega arith), omega arith)
+  put-plain-requires c κs =
+      let c7 = c .before .before .before .before .before .before .before in
+      let c13 = c7 .before .before .before .before .before .before in
+      let c17 = c13 .before .before .before .before in
+      let c23 = c17 .before .before .before .before .before .before in
+      let c30 = c23 .before .before .before .before .before .before .before in
+      let k = choice-ready (expressed _ _ _ _ _ _ _ _ _ (c23 .parse-sequence .ensures) (c17 .first .given .1)) (arms-read _ _ _ _ _ _ _ (c13 .arms .ensures) (c7 .others .given .1)) (c30 .pre .1) refl refl in let z = ready-start (c30 .pre .1) in let w = c30 .pre .1 .small in (omega arith, rw (c .start2 .ensures) (omega arith), omega arith)
 
   start-requires-3 : lts.Need-start-requires-3 claims (parse-choice-at t) parse-choice.Post
   start-requires-3 c κs = search needs
@@ -115,16 +144,36 @@ module _ (t : ℕ) where
   same-length-8 c = search needs
 
   returns-5 : lts.Need-returns-5 claims (parse-choice-at t) parse-choice.Post
-  returns-5 c = let g = expressed _ _ _ _ _ _ _ _ _ (c .before .before .before .before .before .before .before .before .before .before .before .before .before .before .before .before .before .before .before .before .before .before .parse-sequence .ensures) (c .before .before .before .before .before .before .before .before .before .before .before .before .before .before .before .before .first .given .1) in let y = arms-read _ _ _ _ _ _ _ (c .before .before .before .before .before .before .before .before .before .before .before .before .arms .ensures) (c .before .before .before .before .before .before .others .given .1) in choice-empty _ _ (c .before .before .before .before .before .before .before .before .before .before .before .before .before .before .before .before .before .before .before .before .before .before .before .before .before .if1 .left) (g .gives) (y .lists .gives) (λ z. c .before .before .before .before .if2 .left (sym (y .lists .counted) ∙ z)) (first-empty g y ∙ rw (← c .before .before .before .first-of .ensures, c .before .at .given .1))
+  returns-5 c =
+      let c3 = c .before .before .before in
+      let c4 = c3 .before in
+      let c6 = c4 .before .before in
+      let c12 = c6 .before .before .before .before .before .before in
+      let c16 = c12 .before .before .before .before in
+      let c22 = c16 .before .before .before .before .before .before in
+      let c25 = c22 .before .before .before in
+      let g = expressed _ _ _ _ _ _ _ _ _ (c22 .parse-sequence .ensures) (c16 .first .given .1) in let y = arms-read _ _ _ _ _ _ _ (c12 .arms .ensures) (c6 .others .given .1) in choice-empty _ _ (c25 .if1 .left) (g .gives) (y .lists .gives) (λ z. c4 .if2 .left (sym (y .lists .counted) ∙ z)) (first-empty g y ∙ rw (← c3 .first-of .ensures, c .before .at .given .1))
 
   same-length-10 : lts.Need-same-length-10 claims (parse-choice-at t) parse-choice.Post
   same-length-10 c = search needs
 
   returns-6 : lts.Need-returns-6 claims (parse-choice-at t) parse-choice.Post
-  returns-6 c = let g = expressed _ _ _ _ _ _ _ _ _ (c .before .before .before .before .before .before .before .before .before .before .before .before .before .before .before .before .before .before .before .before .before .before .before .before .before .before .before .parse-sequence .ensures) (c .before .before .before .before .before .before .before .before .before .before .before .before .before .before .before .before .before .before .before .before .before .first .given .1) in
-      let y = arms-read _ _ _ _ _ _ _ (c .before .before .before .before .before .before .before .before .before .before .before .before .before .before .before .before .before .arms .ensures) (c .before .before .before .before .before .before .before .before .before .before .before .others .given .1) in
-      rw (c .start3 .ensures) (choice-over g y _ (rw (start-of _ (c .before .before .before .before .before .before .before .before .before .before .before .before .before .before .before .before .before .before .before .before .before .before .before .before .before .before .before .before .before .before .before .before .before .before .args .token)) at (choice-done _ _ (c .before .before .before .before .before .before .before .before .before .before .before .before .before .before .before .before .before .before .before .before .before .before .before .before .before .before .before .before .before .before .if1 .left) (g .gives) (y .lists .gives) (λ z. c .before .before .before .before .before .before .before .before .before .if2 .left (sym (y .lists .counted) ∙ z)) (first-empty g y ∙ rw (← c .before .before .before .before .before .before .before .before .first-of .ensures, c .before .before .before .before .before .before .enum-told3 .given .1))))
-      (ready-start (c .before .before .before .before .before .before .before .before .before .before .before .before .before .before .before .before .before .before .before .before .before .before .before .before .before .before .before .before .before .before .before .before .before .before .pre .1)) (rw (c .before .before .before .before .start2 .ensures) at (c .before .before .before .put-plain .ensures) .stores _ _))
+  returns-6 c =
+      let c3 = c .before .before .before in
+      let c4 = c3 .before in
+      let c6 = c4 .before .before in
+      let c8 = c6 .before .before in
+      let c9 = c8 .before in
+      let c11 = c9 .before .before in
+      let c17 = c11 .before .before .before .before .before .before in
+      let c21 = c17 .before .before .before .before in
+      let c27 = c21 .before .before .before .before .before .before in
+      let c30 = c27 .before .before .before in
+      let c34 = c30 .before .before .before .before in
+      let g = expressed _ _ _ _ _ _ _ _ _ (c27 .parse-sequence .ensures) (c21 .first .given .1) in
+      let y = arms-read _ _ _ _ _ _ _ (c17 .arms .ensures) (c11 .others .given .1) in
+      rw (c .start3 .ensures) (choice-over g y _ (rw (start-of _ (c34 .args .token)) at (choice-done _ _ (c30 .if1 .left) (g .gives) (y .lists .gives) (λ z. c9 .if2 .left (sym (y .lists .counted) ∙ z)) (first-empty g y ∙ rw (← c8 .first-of .ensures, c6 .enum-told3 .given .1))))
+      (ready-start (c34 .pre .1)) (rw (c4 .start2 .ensures) at (c3 .put-plain .ensures) .stores _ _))
 
   same-length-9 : lts.Need-same-length-9 claims (parse-choice-at t) parse-choice.Post
   same-length-9 c = omega (arith, returns-6 c .lays .stores .same-words)

@@ -46,7 +46,9 @@ module _ (t : ℕ) where
   same-length-2 c = search needs
 
   returns : lts.Need-returns claims (parse-sequence-at t) parse-sequence.Post
-  returns c = sequence-refused _ _ (items-not _ _ _ _ _ _ _ (c .before .before .before .before .before .before .before .before .items .ensures) (items-told (c .before .before .enum-told .given .1) (c .before .cause .ensures) (c .place .ensures)))
+  returns c =
+      let c8 = c .before .before .before .before .before .before .before .before in
+      sequence-refused _ _ (items-not _ _ _ _ _ _ _ (c8 .items .ensures) (items-told (c .before .before .enum-told .given .1) (c .before .cause .ensures) (c .place .ensures)))
 
   same-length-3 : lts.Need-same-length-3 claims (parse-sequence-at t) parse-sequence.Post
   same-length-3 c = search needs
@@ -55,16 +57,27 @@ module _ (t : ℕ) where
   same-length-4 c = search needs
 
   returns-2 : lts.Need-returns-2 claims (parse-sequence-at t) parse-sequence.Post
-  returns-2 c = let y = items-read _ _ _ _ _ _ _ (c .before .before .before .before .before .before .before .before .before .items .ensures) (c .before .before .before .read .given .1) in sequence-alone y _ (sequence-done _ _ (y .lists .gives)) (c .before .if1 .taken) (c .if2 .taken)
+  returns-2 c =
+      let c3 = c .before .before .before in
+      let c9 = c3 .before .before .before .before .before .before in
+      let y = items-read _ _ _ _ _ _ _ (c9 .items .ensures) (c3 .read .given .1) in sequence-alone y _ (sequence-done _ _ (y .lists .gives)) (c .before .if1 .taken) (c .if2 .taken)
 
   start-requires : lts.Need-start-requires claims (parse-sequence-at t) parse-sequence.Post
   start-requires c κs = search needs
 
   add-put-plain : lts.Need-add-put-plain claims (parse-sequence-at t) parse-sequence.Post
-  add-put-plain c = let y = items-read _ _ _ _ _ _ _ (c .before .before .before .before .before .before .before .before .before .before .items .ensures) (c .before .before .before .before .read .given .1) in let k = items-small y (c .before .before .before .before .before .before .before .before .before .before .before .before .before .before .before .before .pre .1 .small) in omega arith
+  add-put-plain c =
+      let c4 = c .before .before .before .before in
+      let c10 = c4 .before .before .before .before .before .before in
+      let c16 = c10 .before .before .before .before .before .before in
+      let y = items-read _ _ _ _ _ _ _ (c10 .items .ensures) (c4 .read .given .1) in let k = items-small y (c16 .pre .1 .small) in omega arith
 
   put-plain-requires : lts.Need-put-plain-requires claims (parse-sequence-at t) parse-sequence.Post
-  put-plain-requires c κs = let y = items-read _ _ _ _ _ _ _ (c .before .before .before .before .before .before .before .before .before .before .items .ensures) (c .before .before .before .before .read .given .1) in put-plain-asks (c .before .before .before .before .before .before .before .before .before .before .before .before .before .before .before .before .pre .1) (ready-on (c .before .before .before .before .before .before .before .before .before .before .before .before .before .before .before .before .pre .1) (y .lists .onward) (y .lists .lays)) (c .start .ensures) (items-small y (c .before .before .before .before .before .before .before .before .before .before .before .before .before .before .before .before .pre .1 .small))
+  put-plain-requires c κs =
+      let c4 = c .before .before .before .before in
+      let c10 = c4 .before .before .before .before .before .before in
+      let c16 = c10 .before .before .before .before .before .before in
+      let y = items-read _ _ _ _ _ _ _ (c10 .items .ensures) (c4 .read .given .1) in put-plain-asks (c16 .pre .1) (ready-on (c16 .pre .1) (y .lists .onward) (y .lists .lays)) (c .start .ensures) (items-small y (c16 .pre .1 .small))
 
   start-requires-2 : lts.Need-start-requires-2 claims (parse-sequence-at t) parse-sequence.Post
   start-requires-2 c κs = search needs
@@ -79,8 +92,15 @@ module _ (t : ℕ) where
   same-length-6 c = search needs
 
   returns-3 : lts.Need-returns-3 claims (parse-sequence-at t) parse-sequence.Post
-  returns-3 c = let y = items-read _ _ _ _ _ _ _ (c .before .before .before .before .before .before .before .before .before .before .before .before .before .before .before .items .ensures) (c .before .before .before .before .before .before .before .before .before .read .given .1) in
-      rw (c .sequence-shape .ensures, c .before .start2 .ensures) (sequence-over y _ (rw (start-of _ (c .before .before .before .before .before .before .before .before .before .before .before .before .before .before .before .before .before .before .before .before .before .args .token)) at (sequence-done _ _ (y .lists .gives))) (λ i j. elim (c .before .before .before .before .before .before .before .if1 .came) [ inl x ↦ x .1 .left j | inr y ↦ y .left i ]) (ready-start (c .before .before .before .before .before .before .before .before .before .before .before .before .before .before .before .before .before .before .before .before .before .pre .1)) (rw (c .before .before .before .before .before .start .ensures) at (c .before .before .before .before .put-plain .ensures) .stores _ _))
+  returns-3 c =
+      let c4 = c .before .before .before .before in
+      let c5 = c4 .before in
+      let c7 = c5 .before .before in
+      let c9 = c7 .before .before in
+      let c15 = c9 .before .before .before .before .before .before in
+      let c21 = c15 .before .before .before .before .before .before in
+      let y = items-read _ _ _ _ _ _ _ (c15 .items .ensures) (c9 .read .given .1) in
+      rw (c .sequence-shape .ensures, c .before .start2 .ensures) (sequence-over y _ (rw (start-of _ (c21 .args .token)) at (sequence-done _ _ (y .lists .gives))) (λ i j. elim (c7 .if1 .came) [ inl x ↦ x .1 .left j | inr y ↦ y .left i ]) (ready-start (c21 .pre .1)) (rw (c5 .start .ensures) at (c4 .put-plain .ensures) .stores _ _))
 
   pub met : {M : Type 1} → lts.Closed claims (parse-sequence-at t) parse-sequence.Post M
   met = lts.spec claims (parse-sequence-at t) parse-sequence.Post items-requires enum-known-read enum-told cause-requires place-requires same-length same-length-2 returns same-length-3 same-length-4 returns-2 start-requires add-put-plain put-plain-requires start-requires-2 sequence-shape-requires same-length-5 same-length-6 returns-3

@@ -48,7 +48,12 @@ module _ (t : ℕ) where
   stack-requires c κs = search needs
 
   parse-repeats-requires : lts.Need-parse-repeats-requires claims (parse-suffix-at t) parse-suffix.Post
-  parse-repeats-requires c κs = let g = expressed _ _ _ _ _ _ _ _ _ (c .before .before .before .before .before .before .before .before .before .before .before .parse-inner .ensures) (c .before .before .before .before .before .inner .given .1) in (ready-on (c .before .before .before .before .before .before .before .before .before .before .before .before .before .before .before .before .before .pre .1) (g .onward) (g .lays), rw (c .before .before .before .start .ensures) (ready-start (c .before .before .before .before .before .before .before .before .before .before .before .before .before .before .before .before .before .pre .1)), rw (c .before .before .stack .ensures) (g .shown .low))
+  parse-repeats-requires c κs =
+      let c3 = c .before .before .before in
+      let c5 = c3 .before .before in
+      let c11 = c5 .before .before .before .before .before .before in
+      let c17 = c11 .before .before .before .before .before .before in
+      let g = expressed _ _ _ _ _ _ _ _ _ (c11 .parse-inner .ensures) (c5 .inner .given .1) in (ready-on (c17 .pre .1) (g .onward) (g .lays), rw (c3 .start .ensures) (ready-start (c17 .pre .1)), rw (c .before .before .stack .ensures) (g .shown .low))
 
   enum-known-repeated : lts.Need-enum-known-repeated claims (parse-suffix-at t) parse-suffix.Post
   enum-known-repeated c = search needs
@@ -69,7 +74,13 @@ module _ (t : ℕ) where
   same-length-4 c = search needs
 
   returns-2 : lts.Need-returns-2 claims (parse-suffix-at t) parse-suffix.Post
-  returns-2 c = let g = expressed _ _ _ _ _ _ _ _ _ (c .before .before .before .before .before .before .before .before .before .before .before .before .before .before .before .before .before .before .before .before .parse-inner .ensures) (c .before .before .before .before .before .before .before .before .before .before .before .before .before .before .inner .given .1) in suffix-repeats _ _ (g .gives) (listed-not _ _ _ _ _ _ _ _ _ (rw (c .before .before .before .before .before .before .before .before .before .before .before .before .start .ensures, c .before .before .before .before .before .before .before .before .before .before .before .stack .ensures, ← g .shown .stacks) at (c .before .before .before .before .before .before .before .before .parse-repeats .ensures)) (listed-told (c .before .before .enum-told2 .given .1) (c .before .cause .ensures) (c .place .ensures)))
+  returns-2 c =
+      let c8 = c .before .before .before .before .before .before .before .before in
+      let c11 = c8 .before .before .before in
+      let c12 = c11 .before in
+      let c14 = c12 .before .before in
+      let c20 = c14 .before .before .before .before .before .before in
+      let g = expressed _ _ _ _ _ _ _ _ _ (c20 .parse-inner .ensures) (c14 .inner .given .1) in suffix-repeats _ _ (g .gives) (listed-not _ _ _ _ _ _ _ _ _ (rw (c12 .start .ensures, c11 .stack .ensures, ← g .shown .stacks) at (c8 .parse-repeats .ensures)) (listed-told (c .before .before .enum-told2 .given .1) (c .before .cause .ensures) (c .place .ensures)))
 
   same-length-5 : lts.Need-same-length-5 claims (parse-suffix-at t) parse-suffix.Post
   same-length-5 c = search needs
@@ -78,7 +89,14 @@ module _ (t : ℕ) where
   same-length-6 c = search needs
 
   returns-3 : lts.Need-returns-3 claims (parse-suffix-at t) parse-suffix.Post
-  returns-3 c = let g = expressed _ _ _ _ _ _ _ _ _ (c .before .before .before .before .before .before .before .before .before .before .before .before .before .before .before .before .before .before .before .before .parse-inner .ensures) (c .before .before .before .before .before .before .before .before .before .before .before .before .before .before .inner .given .1) in let l = listed _ _ _ _ _ _ _ _ _ (rw (c .before .before .before .before .before .before .before .before .before .before .before .before .start .ensures, c .before .before .before .before .before .before .before .before .before .before .before .stack .ensures, ← g .shown .stacks) at (c .before .before .before .before .before .before .before .before .parse-repeats .ensures)) (c .before .before .repeated .given .1) in suffix-plain g l (rw (start-of _ (c .before .before .before .before .before .before .before .before .before .before .before .before .before .before .before .before .before .before .before .before .before .before .before .before .before .before .args .token)) at (suffix-done _ _ (g .gives) (l .gives))) (c .if1 .taken)
+  returns-3 c =
+      let c8 = c .before .before .before .before .before .before .before .before in
+      let c11 = c8 .before .before .before in
+      let c12 = c11 .before in
+      let c14 = c12 .before .before in
+      let c20 = c14 .before .before .before .before .before .before in
+      let c26 = c20 .before .before .before .before .before .before in
+      let g = expressed _ _ _ _ _ _ _ _ _ (c20 .parse-inner .ensures) (c14 .inner .given .1) in let l = listed _ _ _ _ _ _ _ _ _ (rw (c12 .start .ensures, c11 .stack .ensures, ← g .shown .stacks) at (c8 .parse-repeats .ensures)) (c .before .before .repeated .given .1) in suffix-plain g l (rw (start-of _ (c26 .args .token)) at (suffix-done _ _ (g .gives) (l .gives))) (c .if1 .taken)
 
   start-requires-2 : lts.Need-start-requires-2 claims (parse-suffix-at t) parse-suffix.Post
   start-requires-2 c κs = search needs
@@ -87,8 +105,15 @@ module _ (t : ℕ) where
   stack-requires-2 c κs = search needs
 
   add-t32 : lts.Need-add-t32 claims (parse-suffix-at t) parse-suffix.Post
-  add-t32 c = let g = expressed _ _ _ _ _ _ _ _ _ (c .before .before .before .before .before .before .before .before .before .before .before .before .before .before .before .before .before .before .before .before .before .before .parse-inner .ensures) (c .before .before .before .before .before .before .before .before .before .before .before .before .before .before .before .before .inner .given .1) in
-      let l = listed _ _ _ _ _ _ _ _ _ (rw (c .before .before .before .before .before .before .before .before .before .before .before .before .before .before .start .ensures, c .before .before .before .before .before .before .before .before .before .before .before .before .before .stack .ensures, ← g .shown .stacks) at (c .before .before .before .before .before .before .before .before .before .before .parse-repeats .ensures)) (c .before .before .before .before .repeated .given .1) in
+  add-t32 c =
+      let c4 = c .before .before .before .before in
+      let c10 = c4 .before .before .before .before .before .before in
+      let c13 = c10 .before .before .before in
+      let c14 = c13 .before in
+      let c16 = c14 .before .before in
+      let c22 = c16 .before .before .before .before .before .before in
+      let g = expressed _ _ _ _ _ _ _ _ _ (c22 .parse-inner .ensures) (c16 .inner .given .1) in
+      let l = listed _ _ _ _ _ _ _ _ _ (rw (c14 .start .ensures, c13 .stack .ensures, ← g .shown .stacks) at (c10 .parse-repeats .ensures)) (c4 .repeated .given .1) in
       let low = stack-low _ _ _ _ (rw (g .shown .stacks) (g .shown .low)) (l .gives) in let k = small-stack (c .stack2 .ensures) (g .shown .stacks) (l .counted) low in omega arith
 
   same-length-7 : lts.Need-same-length-7 claims (parse-suffix-at t) parse-suffix.Post
@@ -98,10 +123,18 @@ module _ (t : ℕ) where
   same-length-8 c = search needs
 
   returns-4 : lts.Need-returns-4 claims (parse-suffix-at t) parse-suffix.Post
-  returns-4 c = let g = expressed _ _ _ _ _ _ _ _ _ (c .before .before .before .before .before .before .before .before .before .before .before .before .before .before .before .before .before .before .before .before .before .before .parse-inner .ensures) (c .before .before .before .before .before .before .before .before .before .before .before .before .before .before .before .before .inner .given .1) in
-      let l = listed _ _ _ _ _ _ _ _ _ (rw (c .before .before .before .before .before .before .before .before .before .before .before .before .before .before .start .ensures, c .before .before .before .before .before .before .before .before .before .before .before .before .before .stack .ensures, ← g .shown .stacks) at (c .before .before .before .before .before .before .before .before .before .before .parse-repeats .ensures)) (c .before .before .before .before .repeated .given .1) in
+  returns-4 c =
+      let c4 = c .before .before .before .before in
+      let c10 = c4 .before .before .before .before .before .before in
+      let c13 = c10 .before .before .before in
+      let c14 = c13 .before in
+      let c16 = c14 .before .before in
+      let c22 = c16 .before .before .before .before .before .before in
+      let c28 = c22 .before .before .before .before .before .before in
+      let g = expressed _ _ _ _ _ _ _ _ _ (c22 .parse-inner .ensures) (c16 .inner .given .1) in
+      let l = listed _ _ _ _ _ _ _ _ _ (rw (c14 .start .ensures, c13 .stack .ensures, ← g .shown .stacks) at (c10 .parse-repeats .ensures)) (c4 .repeated .given .1) in
       let low = stack-low _ _ _ _ (rw (g .shown .stacks) (g .shown .low)) (l .gives) in
-      rw (c .before .start2 .ensures) (suffix-repeated g l (rw (start-of _ (c .before .before .before .before .before .before .before .before .before .before .before .before .before .before .before .before .before .before .before .before .before .before .before .before .before .before .before .before .args .token)) at (suffix-done _ _ (g .gives) (l .gives))) (c .before .before .if1 .left) (ready-start (c .before .before .before .before .before .before .before .before .before .before .before .before .before .before .before .before .before .before .before .before .before .before .before .before .before .before .before .before .pre .1)) (c .stack2 .ensures) (rw (c .stack2 .ensures, ← g .shown .stacks, ← l .counted) low))
+      rw (c .before .start2 .ensures) (suffix-repeated g l (rw (start-of _ (c28 .args .token)) at (suffix-done _ _ (g .gives) (l .gives))) (c .before .before .if1 .left) (ready-start (c28 .pre .1)) (c .stack2 .ensures) (rw (c .stack2 .ensures, ← g .shown .stacks, ← l .counted) low))
 
   pub met : {M : Type 1} → lts.Closed claims (parse-suffix-at t) parse-suffix.Post M
   met = lts.spec claims (parse-suffix-at t) parse-suffix.Post parse-inner-requires enum-known-inner enum-told same-length same-length-2 returns start-requires stack-requires parse-repeats-requires enum-known-repeated enum-told-2 cause-requires place-requires same-length-3 same-length-4 returns-2 same-length-5 same-length-6 returns-3 start-requires-2 stack-requires-2 add-t32 same-length-7 same-length-8 returns-4

@@ -50,7 +50,9 @@ module _ (t : ℕ) where
   same-length-2 c = search needs
 
   returns : lts.Need-returns claims (parts-at t) parts.Post
-  returns c = R.parts-below _ _ _ (expressed-not _ _ _ _ _ _ _ _ _ (c .before .before .before .before .before .before .before .before .parse-choice .ensures) (expressed-told (c .before .before .enum-told .given .1) (c .before .cause .ensures) (c .place .ensures)))
+  returns c =
+      let c8 = c .before .before .before .before .before .before .before .before in
+      R.parts-below _ _ _ (expressed-not _ _ _ _ _ _ _ _ _ (c8 .parse-choice .ensures) (expressed-told (c .before .before .enum-told .given .1) (c .before .cause .ensures) (c .place .ensures)))
 
   eat-punctuation-requires : lts.Need-eat-punctuation-requires claims (parts-at t) parts.Post
   eat-punctuation-requires c κs = search needs
@@ -62,9 +64,15 @@ module _ (t : ℕ) where
   enum-known-v c = search needs
 
   second-requires : lts.Need-second-requires claims (parts-at t) parts.Post
-  second-requires c κs = let g = expressed _ _ _ _ _ _ _ _ _ (c .before .before .before .before .before .before .before .before .before .before .before .before .before .parse-choice .ensures) (c .before .before .before .before .before .before .before .inside .given .1) in
-      let o = eat-onward _ "," _ _ _ (omega arith) (g .onward .lies) (c .before .before .before .before .before .eat-punctuation .ensures) (c .before .before .before .v .given .1) in
-      (falls-past 21 21 (onward-then (g .onward) o) (c .before .before .before .before .before .before .before .before .before .before .before .before .before .before .before .before .before .before .before .pre .0) (omega arith), ready-past (c .before .before .before .before .before .before .before .before .before .before .before .before .before .before .before .before .before .before .before .pre .1) (g .lays) (omega arith) o)
+  second-requires c κs =
+      let c3 = c .before .before .before in
+      let c5 = c3 .before .before in
+      let c7 = c5 .before .before in
+      let c13 = c7 .before .before .before .before .before .before in
+      let c19 = c13 .before .before .before .before .before .before in
+      let g = expressed _ _ _ _ _ _ _ _ _ (c13 .parse-choice .ensures) (c7 .inside .given .1) in
+      let o = eat-onward _ "," _ _ _ (omega arith) (g .onward .lies) (c5 .eat-punctuation .ensures) (c3 .v .given .1) in
+      (falls-past 21 21 (onward-then (g .onward) o) (c19 .pre .0) (omega arith), ready-past (c19 .pre .1) (g .lays) (omega arith) o)
 
   enum-known-behind : lts.Need-enum-known-behind claims (parts-at t) parts.Post
   enum-known-behind c = search needs
@@ -85,13 +93,23 @@ module _ (t : ℕ) where
   same-length-4 c = search needs
 
   returns-2 : lts.Need-returns-2 claims (parts-at t) parts.Post
-  returns-2 c = R.parts-second _ _ _ (expressed _ _ _ _ _ _ _ _ _ (c .before .before .before .before .before .before .before .before .before .before .before .before .before .before .before .before .before .before .before .before .before .before .parse-choice .ensures) (c .before .before .before .before .before .before .before .before .before .before .before .before .before .before .before .before .inside .given .1) .gives) (eat-yes _ "," _ _ (c .before .before .before .before .before .before .before .before .before .before .before .before .before .before .eat-punctuation .ensures) (c .before .before .before .before .before .before .before .before .before .before .before .before .v .given .1)) (expressed-not _ _ _ _ _ _ _ _ _ (c .before .before .before .before .before .before .before .before .second .ensures) (expressed-told (c .before .before .enum-told2 .given .1) (c .before .cause3 .ensures) (c .place2 .ensures)))
+  returns-2 c =
+      let c8 = c .before .before .before .before .before .before .before .before in
+      let c12 = c8 .before .before .before .before in
+      let c14 = c12 .before .before in
+      let c16 = c14 .before .before in
+      let c22 = c16 .before .before .before .before .before .before in
+      R.parts-second _ _ _ (expressed _ _ _ _ _ _ _ _ _ (c22 .parse-choice .ensures) (c16 .inside .given .1) .gives) (eat-yes _ "," _ _ (c14 .eat-punctuation .ensures) (c12 .v .given .1)) (expressed-not _ _ _ _ _ _ _ _ _ (c8 .second .ensures) (expressed-told (c .before .before .enum-told2 .given .1) (c .before .cause3 .ensures) (c .place2 .ensures)))
 
   enum-told-3 : lts.Need-enum-told-3 claims (parts-at t) parts.Post
   enum-told-3 c = search needs
 
   parse-specialize-content-requires : lts.Need-parse-specialize-content-requires claims (parts-at t) parts.Post
-  parse-specialize-content-requires c κs = ready-content (c .before .before .before .before .before .before .before .before .before .before .before .before .before .before .before .before .before .before .pre .1) (expressed _ _ _ _ _ _ _ _ _ (c .before .before .before .before .before .before .before .before .before .before .before .before .parse-choice .ensures) (c .before .before .before .before .before .before .inside .given .1))
+  parse-specialize-content-requires c κs =
+      let c6 = c .before .before .before .before .before .before in
+      let c12 = c6 .before .before .before .before .before .before in
+      let c18 = c12 .before .before .before .before .before .before in
+      ready-content (c18 .pre .1) (expressed _ _ _ _ _ _ _ _ _ (c12 .parse-choice .ensures) (c6 .inside .given .1))
 
   enum-known-content : lts.Need-enum-known-content claims (parts-at t) parts.Post
   enum-known-content c = search needs
@@ -106,9 +124,15 @@ module _ (t : ℕ) where
   same-length-6 c = search needs
 
   returns-3 : lts.Need-returns-3 claims (parts-at t) parts.Post
-  returns-3 c = rw (c .enum-told4 .given .1) (let g = expressed _ _ _ _ _ _ _ _ _ (c .before .before .before .before .before .before .before .before .before .before .before .before .before .before .before .before .before .before .before .parse-choice .ensures) (c .before .before .before .before .before .before .before .before .before .before .before .before .before .inside .given .1) in
-      R.parts-one-refused _ _ _ (g .gives) (eat-no _ "," _ _ (c .before .before .before .before .before .before .before .before .before .before .before .eat-punctuation .ensures) (c .before .before .before .before .before .before .before .before .before .enum-told3 .given .1))
-      (content-is _ _ _ _ _ _ _ (g .shown) _ ∙ rw (c .enum-told4 .given .1) at (c .before .before .before .before .before .before .parse-specialize-content .ensures)))
+  returns-3 c =
+      let c6 = c .before .before .before .before .before .before in
+      let c9 = c6 .before .before .before in
+      let c11 = c9 .before .before in
+      let c13 = c11 .before .before in
+      let c19 = c13 .before .before .before .before .before .before in
+      rw (c .enum-told4 .given .1) (let g = expressed _ _ _ _ _ _ _ _ _ (c19 .parse-choice .ensures) (c13 .inside .given .1) in
+      R.parts-one-refused _ _ _ (g .gives) (eat-no _ "," _ _ (c11 .eat-punctuation .ensures) (c9 .enum-told3 .given .1))
+      (content-is _ _ _ _ _ _ _ (g .shown) _ ∙ rw (c .enum-told4 .given .1) at (c6 .parse-specialize-content .ensures)))
 
   expect-punctuation-requires : lts.Need-expect-punctuation-requires claims (parts-at t) parts.Post
   expect-punctuation-requires c κs = search needs
@@ -126,15 +150,26 @@ module _ (t : ℕ) where
   place-requires-3 c κs = search needs
 
   same-length-7 : lts.Need-same-length-7 claims (parts-at t) parts.Post
-  same-length-7 c = omega (arith, c .before .before .before .before .before .before .before .before .before .before .before .before .before .before .before .before .before .before .before .before .before .before .before .before .records .given, c .before .before .before .before .before .before .before .before .before .before .before .records3 .given)
+  same-length-7 c =
+      let c11 = c .before .before .before .before .before .before .before .before .before .before .before in
+      let c24 = c11 .before .before .before .before .before .before .before .before .before .before .before .before .before in
+      omega (arith, c24 .records .given, c11 .records3 .given)
 
   same-length-8 : lts.Need-same-length-8 claims (parts-at t) parts.Post
   same-length-8 c = search needs
 
   returns-4 : lts.Need-returns-4 claims (parts-at t) parts.Post
-  returns-4 c = let g = expressed _ _ _ _ _ _ _ _ _ (c .before .before .before .before .before .before .before .before .before .before .before .before .before .before .before .before .before .before .before .before .before .before .before .before .before .parse-choice .ensures) (c .before .before .before .before .before .before .before .before .before .before .before .before .before .before .before .before .before .before .before .inside .given .1) in
-      let x = content-read _ _ _ _ _ _ _ _ _ (c .before .before .before .before .before .before .before .before .before .before .before .before .parse-specialize-content .ensures) (c .before .before .before .before .before .before .content .given .1) in
-      R.parts-one-close _ _ _ (g .gives) (eat-no _ "," _ _ (c .before .before .before .before .before .before .before .before .before .before .before .before .before .before .before .before .before .eat-punctuation .ensures) (c .before .before .before .before .before .before .before .before .before .before .before .before .before .before .before .enum-told3 .given .1)) (content-again g x _) (expect-not _ ">" _ _ (c .before .before .before .before .expect-punctuation .ensures) (arrived-told (c .before .before .enum-told5 .given .1) (c .before .cause4 .ensures) (c .place3 .ensures)))
+  returns-4 c =
+      let c4 = c .before .before .before .before in
+      let c6 = c4 .before .before in
+      let c12 = c6 .before .before .before .before .before .before in
+      let c15 = c12 .before .before .before in
+      let c17 = c15 .before .before in
+      let c19 = c17 .before .before in
+      let c25 = c19 .before .before .before .before .before .before in
+      let g = expressed _ _ _ _ _ _ _ _ _ (c25 .parse-choice .ensures) (c19 .inside .given .1) in
+      let x = content-read _ _ _ _ _ _ _ _ _ (c12 .parse-specialize-content .ensures) (c6 .content .given .1) in
+      R.parts-one-close _ _ _ (g .gives) (eat-no _ "," _ _ (c17 .eat-punctuation .ensures) (c15 .enum-told3 .given .1)) (content-again g x _) (expect-not _ ">" _ _ (c4 .expect-punctuation .ensures) (arrived-told (c .before .before .enum-told5 .given .1) (c .before .cause4 .ensures) (c .place3 .ensures)))
 
   same-length-9 : lts.Need-same-length-9 claims (parts-at t) parts.Post
   same-length-9 c = search needs
@@ -143,7 +178,11 @@ module _ (t : ℕ) where
   same-length-10 c = search needs
 
   returns-5 : lts.Need-returns-5 claims (parts-at t) parts.Post
-  returns-5 c = R.parts-comma _ _ _ (expressed _ _ _ _ _ _ _ _ _ (c .before .before .before .before .before .before .before .before .before .before .before .parse-choice .ensures) (c .before .before .before .before .before .inside .given .1) .gives) (eat-not _ "," _ _ (c .before .before .before .eat-punctuation .ensures) (c .before .cause2 .given .1))
+  returns-5 c =
+      let c3 = c .before .before .before in
+      let c5 = c3 .before .before in
+      let c11 = c5 .before .before .before .before .before .before in
+      R.parts-comma _ _ _ (expressed _ _ _ _ _ _ _ _ _ (c11 .parse-choice .ensures) (c5 .inside .given .1) .gives) (eat-not _ "," _ _ (c3 .eat-punctuation .ensures) (c .before .cause2 .given .1))
 
   same-length-11 : lts.Need-same-length-11 claims (parts-at t) parts.Post
   same-length-11 c = search needs
@@ -152,9 +191,15 @@ module _ (t : ℕ) where
   same-length-12 c = search needs
 
   returns-6 : lts.Need-returns-6 claims (parts-at t) parts.Post
-  returns-6 c = let g = expressed _ _ _ _ _ _ _ _ _ (c .before .before .before .before .before .before .before .before .before .before .before .before .before .before .before .before .before .before .before .before .before .parse-choice .ensures) (c .before .before .before .before .before .before .before .before .before .before .before .before .before .before .before .inside .given .1) in
-      let k = expressed _ _ _ _ _ _ _ _ _ (c .before .before .before .before .before .before .before .second .ensures) (c .before .behind .given .1) in
-      parts-two g k (eat-onward _ "," _ _ _ (omega arith) (g .onward .lies) (c .before .before .before .before .before .before .before .before .before .before .before .before .before .eat-punctuation .ensures) (c .before .before .before .before .before .before .before .before .before .before .before .v .given .1)) (R.parts-both _ _ _ (g .gives) (eat-yes _ "," _ _ (c .before .before .before .before .before .before .before .before .before .before .before .before .before .eat-punctuation .ensures) (c .before .before .before .before .before .before .before .before .before .before .before .v .given .1)) (k .gives))
+  returns-6 c =
+      let c7 = c .before .before .before .before .before .before .before in
+      let c11 = c7 .before .before .before .before in
+      let c13 = c11 .before .before in
+      let c15 = c13 .before .before in
+      let c21 = c15 .before .before .before .before .before .before in
+      let g = expressed _ _ _ _ _ _ _ _ _ (c21 .parse-choice .ensures) (c15 .inside .given .1) in
+      let k = expressed _ _ _ _ _ _ _ _ _ (c7 .second .ensures) (c .before .behind .given .1) in
+      parts-two g k (eat-onward _ "," _ _ _ (omega arith) (g .onward .lies) (c13 .eat-punctuation .ensures) (c11 .v .given .1)) (R.parts-both _ _ _ (g .gives) (eat-yes _ "," _ _ (c13 .eat-punctuation .ensures) (c11 .v .given .1)) (k .gives))
 
   same-length-13 : lts.Need-same-length-13 claims (parts-at t) parts.Post
   same-length-13 c = search needs
@@ -163,10 +208,18 @@ module _ (t : ℕ) where
   same-length-14 c = search needs
 
   returns-7 : lts.Need-returns-7 claims (parts-at t) parts.Post
-  returns-7 c = let g = expressed _ _ _ _ _ _ _ _ _ (c .before .before .before .before .before .before .before .before .before .before .before .before .before .before .before .before .before .before .before .before .before .before .before .before .parse-choice .ensures) (c .before .before .before .before .before .before .before .before .before .before .before .before .before .before .before .before .before .before .inside .given .1) in
-      let x = content-read _ _ _ _ _ _ _ _ _ (c .before .before .before .before .before .before .before .before .before .before .before .parse-specialize-content .ensures) (c .before .before .before .before .before .content .given .1) in
-      parts-one g x (expect-onward _ ">" _ _ _ (omega arith) (g .onward .lies) (c .before .before .before .expect-punctuation .ensures) (c .before .closed .given .1))
-      (R.parts-one _ _ _ (g .gives) (eat-no _ "," _ _ (c .before .before .before .before .before .before .before .before .before .before .before .before .before .before .before .before .eat-punctuation .ensures) (c .before .before .before .before .before .before .before .before .before .before .before .before .before .before .enum-told3 .given .1)) (content-again g x _) (expect-at _ ">" _ _ (c .before .before .before .expect-punctuation .ensures) (c .before .closed .given .1)))
+  returns-7 c =
+      let c3 = c .before .before .before in
+      let c5 = c3 .before .before in
+      let c11 = c5 .before .before .before .before .before .before in
+      let c14 = c11 .before .before .before in
+      let c16 = c14 .before .before in
+      let c18 = c16 .before .before in
+      let c24 = c18 .before .before .before .before .before .before in
+      let g = expressed _ _ _ _ _ _ _ _ _ (c24 .parse-choice .ensures) (c18 .inside .given .1) in
+      let x = content-read _ _ _ _ _ _ _ _ _ (c11 .parse-specialize-content .ensures) (c5 .content .given .1) in
+      parts-one g x (expect-onward _ ">" _ _ _ (omega arith) (g .onward .lies) (c3 .expect-punctuation .ensures) (c .before .closed .given .1))
+      (R.parts-one _ _ _ (g .gives) (eat-no _ "," _ _ (c16 .eat-punctuation .ensures) (c14 .enum-told3 .given .1)) (content-again g x _) (expect-at _ ">" _ _ (c3 .expect-punctuation .ensures) (c .before .closed .given .1)))
 
   pub met : {M : Type 1} → lts.Closed claims (parts-at t) parts.Post M
   met = lts.spec claims (parts-at t) parts.Post parse-choice-requires enum-known-inside enum-told cause-requires place-requires same-length same-length-2 returns eat-punctuation-requires enum-known-cause enum-known-v second-requires enum-known-behind enum-told-2 cause-requires-2 place-requires-2 same-length-3 same-length-4 returns-2 enum-told-3 parse-specialize-content-requires enum-known-content enum-told-4 same-length-5 same-length-6 returns-3 expect-punctuation-requires enum-known-closed enum-told-5 cause-requires-3 place-requires-3 same-length-7 same-length-8 returns-4 same-length-9 same-length-10 returns-5 same-length-11 same-length-12 returns-6 same-length-13 same-length-14 returns-7

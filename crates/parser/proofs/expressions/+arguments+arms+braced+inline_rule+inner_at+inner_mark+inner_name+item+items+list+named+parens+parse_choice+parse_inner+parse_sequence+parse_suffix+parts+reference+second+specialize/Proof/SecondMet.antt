@@ -59,7 +59,11 @@ module _ (t : ℕ) where
   same-length-4 c = search needs
 
   returns-2 : lts.Need-returns-2 claims (second-at t) second.Post
-  returns-2 c = second-close _ _ (expressed _ _ _ _ _ _ _ _ _ (c .before .before .before .before .before .before .before .before .before .before .before .before .parse-choice .ensures) (c .before .before .before .before .before .before .inside .given .1) .gives) (expect-not _ ">" _ _ (c .before .before .before .before .expect-punctuation .ensures) (arrived-told (c .before .before .enum-told2 .given .1) (c .before .cause .ensures) (c .place .ensures)))
+  returns-2 c =
+      let c4 = c .before .before .before .before in
+      let c6 = c4 .before .before in
+      let c12 = c6 .before .before .before .before .before .before in
+      second-close _ _ (expressed _ _ _ _ _ _ _ _ _ (c12 .parse-choice .ensures) (c6 .inside .given .1) .gives) (expect-not _ ">" _ _ (c4 .expect-punctuation .ensures) (arrived-told (c .before .before .enum-told2 .given .1) (c .before .cause .ensures) (c .place .ensures)))
 
   same-length-5 : lts.Need-same-length-5 claims (second-at t) second.Post
   same-length-5 c = search needs
@@ -68,9 +72,14 @@ module _ (t : ℕ) where
   same-length-6 c = search needs
 
   returns-3 : lts.Need-returns-3 claims (second-at t) second.Post
-  returns-3 c = let g = expressed _ _ _ _ _ _ _ _ _ (c .before .before .before .before .before .before .before .before .before .before .before .parse-choice .ensures) (c .before .before .before .before .before .inside .given .1) in
-      let q = expect-onward _ ">" _ _ _ (omega arith) (g .onward .lies) (c .before .before .before .expect-punctuation .ensures) (c .before .closed .given .1) in
-      yields-within g (onward-here _ _ (c .before .before .before .before .before .before .before .before .before .before .before .before .before .before .before .before .before .pre .1 .lies)) q (second-done _ _ (g .gives) (expect-at _ ">" _ _ (c .before .before .before .expect-punctuation .ensures) (c .before .closed .given .1))) (omega arith)
+  returns-3 c =
+      let c3 = c .before .before .before in
+      let c5 = c3 .before .before in
+      let c11 = c5 .before .before .before .before .before .before in
+      let c17 = c11 .before .before .before .before .before .before in
+      let g = expressed _ _ _ _ _ _ _ _ _ (c11 .parse-choice .ensures) (c5 .inside .given .1) in
+      let q = expect-onward _ ">" _ _ _ (omega arith) (g .onward .lies) (c3 .expect-punctuation .ensures) (c .before .closed .given .1) in
+      yields-within g (onward-here _ _ (c17 .pre .1 .lies)) q (second-done _ _ (g .gives) (expect-at _ ">" _ _ (c3 .expect-punctuation .ensures) (c .before .closed .given .1))) (omega arith)
 
   pub met : {M : Type 1} → lts.Closed claims (second-at t) second.Post M
   met = lts.spec claims (second-at t) second.Post parse-choice-requires enum-known-inside enum-told same-length same-length-2 returns expect-punctuation-requires enum-known-closed enum-told-2 cause-requires place-requires same-length-3 same-length-4 returns-2 same-length-5 same-length-6 returns-3

@@ -48,13 +48,19 @@ module _ (t : ℕ) where
   same-length-2 c = search needs
 
   returns : lts.Need-returns claims (specialize-at t) specialize.Post
-  returns c = special-head _ _ _ _ (special-head-not _ _ _ _ _ _ (c .before .before .before .before .before .before .before .before .specialize-head .ensures) (listed-told (c .before .before .enum-told .given .1) (c .before .cause .ensures) (c .place .ensures)))
+  returns c =
+      let c8 = c .before .before .before .before .before .before .before .before in
+      special-head _ _ _ _ (special-head-not _ _ _ _ _ _ (c8 .specialize-head .ensures) (listed-told (c .before .before .enum-told .given .1) (c .before .cause .ensures) (c .place .ensures)))
 
   start-requires : lts.Need-start-requires claims (specialize-at t) specialize.Post
   start-requires c κs = search needs
 
   parts-requires : lts.Need-parts-requires claims (specialize-at t) specialize.Post
-  parts-requires c κs = let h = special-head-read _ _ _ _ _ _ (c .before .before .before .before .before .before .before .before .before .before .specialize-head .ensures) (c .before .before .before .before .head .given .1) in (falls-past 12 21 (h .lists .onward) (c .before .before .before .before .before .before .before .before .before .before .before .before .before .before .before .before .pre .0) (omega arith), ready-on (c .before .before .before .before .before .before .before .before .before .before .before .before .before .before .before .before .pre .1 .0) (h .lists .onward) (h .lists .lays))
+  parts-requires c κs =
+      let c4 = c .before .before .before .before in
+      let c10 = c4 .before .before .before .before .before .before in
+      let c16 = c10 .before .before .before .before .before .before in
+      let h = special-head-read _ _ _ _ _ _ (c10 .specialize-head .ensures) (c4 .head .given .1) in (falls-past 12 21 (h .lists .onward) (c16 .pre .0) (omega arith), ready-on (c16 .pre .1 .0) (h .lists .onward) (h .lists .lays))
 
   enum-known-parsed : lts.Need-enum-known-parsed claims (specialize-at t) specialize.Post
   enum-known-parsed c = search needs
@@ -75,7 +81,12 @@ module _ (t : ℕ) where
   same-length-4 c = search needs
 
   returns-2 : lts.Need-returns-2 claims (specialize-at t) specialize.Post
-  returns-2 c = special-parts _ _ _ _ (special-head-read _ _ _ _ _ _ (c .before .before .before .before .before .before .before .before .before .before .before .before .before .before .before .before .before .before .before .specialize-head .ensures) (c .before .before .before .before .before .before .before .before .before .before .before .before .before .head .given .1) .lists .gives) (parts-not _ _ _ _ _ _ _ (rw (c .before .before .before .before .before .before .before .before .before .before .before .start .ensures) at (c .before .before .before .before .before .before .before .before .parts .ensures)) (parsed-told (c .before .before .enum-told2 .given .1) (c .before .cause2 .ensures) (c .place2 .ensures)))
+  returns-2 c =
+      let c8 = c .before .before .before .before .before .before .before .before in
+      let c11 = c8 .before .before .before in
+      let c13 = c11 .before .before in
+      let c19 = c13 .before .before .before .before .before .before in
+      special-parts _ _ _ _ (special-head-read _ _ _ _ _ _ (c19 .specialize-head .ensures) (c13 .head .given .1) .lists .gives) (parts-not _ _ _ _ _ _ _ (rw (c11 .start .ensures) at (c8 .parts .ensures)) (parsed-told (c .before .before .enum-told2 .given .1) (c .before .cause2 .ensures) (c .place2 .ensures)))
 
   start-requires-2 : lts.Need-start-requires-2 claims (specialize-at t) specialize.Post
   start-requires-2 c κs = search needs
@@ -84,13 +95,24 @@ module _ (t : ℕ) where
   specialize-value-requires c κs = search needs
 
   add-put-plain : lts.Need-add-put-plain claims (specialize-at t) specialize.Post
-  add-put-plain c = let h = special-head-read _ _ _ _ _ _ (c .before .before .before .before .before .before .before .before .before .before .before .before .before .before .before .before .before .before .before .before .before .specialize-head .ensures) (c .before .before .before .before .before .before .before .before .before .before .before .before .before .before .before .head .given .1) in let k = lists-small propBranch (h .lists) (c .before .before .before .before .before .before .before .before .before .before .before .before .before .before .before .before .before .before .before .before .before .before .before .before .before .before .before .pre .1 .0 .small) in omega arith
+  add-put-plain c =
+      let c15 = c .before .before .before .before .before .before .before .before .before .before .before .before .before .before .before in
+      let c21 = c15 .before .before .before .before .before .before in
+      let c27 = c21 .before .before .before .before .before .before in
+      let h = special-head-read _ _ _ _ _ _ (c21 .specialize-head .ensures) (c15 .head .given .1) in let k = lists-small propBranch (h .lists) (c27 .pre .1 .0 .small) in omega arith
 
   put-plain-requires : lts.Need-put-plain-requires claims (specialize-at t) specialize.Post
-  put-plain-requires c κs = let h = special-head-read _ _ _ _ _ _ (c .before .before .before .before .before .before .before .before .before .before .before .before .before .before .before .before .before .before .before .before .before .specialize-head .ensures) (c .before .before .before .before .before .before .before .before .before .before .before .before .before .before .before .head .given .1) in
-      let x = parts-read _ _ _ _ _ _ _ (rw (c .before .before .before .before .before .before .before .before .before .before .before .before .before .start .ensures) at (c .before .before .before .before .before .before .before .before .before .before .parts .ensures)) (c .before .before .before .before .parsed .given .1) in
-      let k = lists-small propBranch (h .lists) (c .before .before .before .before .before .before .before .before .before .before .before .before .before .before .before .before .before .before .before .before .before .before .before .before .before .before .before .pre .1 .0 .small) in
-      put-plain-asks (c .before .before .before .before .before .before .before .before .before .before .before .before .before .before .before .before .before .before .before .before .before .before .before .before .before .before .before .pre .1 .0) (special-ready (c .before .before .before .before .before .before .before .before .before .before .before .before .before .before .before .before .before .before .before .before .before .before .before .before .before .before .before .pre .1 .0) h x) (c .before .start2 .ensures) (omega arith)
+  put-plain-requires c κs =
+      let c4 = c .before .before .before .before in
+      let c10 = c4 .before .before .before .before .before .before in
+      let c13 = c10 .before .before .before in
+      let c15 = c13 .before .before in
+      let c21 = c15 .before .before .before .before .before .before in
+      let c27 = c21 .before .before .before .before .before .before in
+      let h = special-head-read _ _ _ _ _ _ (c21 .specialize-head .ensures) (c15 .head .given .1) in
+      let x = parts-read _ _ _ _ _ _ _ (rw (c13 .start .ensures) at (c10 .parts .ensures)) (c4 .parsed .given .1) in
+      let k = lists-small propBranch (h .lists) (c27 .pre .1 .0 .small) in
+      put-plain-asks (c27 .pre .1 .0) (special-ready (c27 .pre .1 .0) h x) (c .before .start2 .ensures) (omega arith)
 
   start-requires-3 : lts.Need-start-requires-3 claims (specialize-at t) specialize.Post
   start-requires-3 c κs = search needs
@@ -102,9 +124,19 @@ module _ (t : ℕ) where
   same-length-6 c = search needs
 
   returns-3 : lts.Need-returns-3 claims (specialize-at t) specialize.Post
-  returns-3 c = let h = special-head-read _ _ _ _ _ _ (c .before .before .before .before .before .before .before .before .before .before .before .before .before .before .before .before .before .before .before .before .before .before .before .before .before .specialize-head .ensures) (c .before .before .before .before .before .before .before .before .before .before .before .before .before .before .before .before .before .before .before .head .given .1) in
-      let x = parts-read _ _ _ _ _ _ _ (rw (c .before .before .before .before .before .before .before .before .before .before .before .before .before .before .before .before .before .start .ensures) at (c .before .before .before .before .before .before .before .before .before .before .before .before .before .before .parts .ensures)) (c .before .before .before .before .before .before .before .before .parsed .given .1) in
-      rw (c .start3 .ensures) (special-over (specializeOf (c .before .before .before .before .before .before .before .before .before .before .before .before .before .before .before .before .before .before .before .before .before .before .before .before .before .before .before .before .before .before .before .args .kind)) _ h x (ready-start (c .before .before .before .before .before .before .before .before .before .before .before .before .before .before .before .before .before .before .before .before .before .before .before .before .before .before .before .before .before .before .before .pre .1 .0)) (c .before .before .before .before .specialize-value .ensures) (rw (c .before .before .before .before .before .start2 .ensures) at (c .before .before .before .put-plain .ensures) .stores _ _)
+  returns-3 c =
+      let c3 = c .before .before .before in
+      let c4 = c3 .before in
+      let c5 = c4 .before in
+      let c8 = c5 .before .before .before in
+      let c14 = c8 .before .before .before .before .before .before in
+      let c17 = c14 .before .before .before in
+      let c19 = c17 .before .before in
+      let c25 = c19 .before .before .before .before .before .before in
+      let c31 = c25 .before .before .before .before .before .before in
+      let h = special-head-read _ _ _ _ _ _ (c25 .specialize-head .ensures) (c19 .head .given .1) in
+      let x = parts-read _ _ _ _ _ _ _ (rw (c17 .start .ensures) at (c14 .parts .ensures)) (c8 .parsed .given .1) in
+      rw (c .start3 .ensures) (special-over (specializeOf (c31 .args .kind)) _ h x (ready-start (c31 .pre .1 .0)) (c4 .specialize-value .ensures) (rw (c5 .start2 .ensures) at (c3 .put-plain .ensures) .stores _ _)
       (special-done _ _ _ _ (h .lists .gives) (x .gives)))
 
   pub met : {M : Type 1} → lts.Closed claims (specialize-at t) specialize.Post M
