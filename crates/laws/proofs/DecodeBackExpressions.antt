@@ -6,6 +6,7 @@ use mathlib.Core.Path.{_≡_, refl, ap, sym, _∙_}
 use mathlib.Core.Bool.{Bool, true, false}
 use mathlib.Core.List.{List, [], _∷_, _++_, map, append-nil}
 use lib.Dec.{eqb}
+use lib.Seq.{append-snoc}
 use Rattle.basics.specs.Basics.{if_then_else_}
 use Rattle.basics.proofs.Tests.{clash}
 use Rattle.characters.specs.Spans.{Span}
@@ -16,7 +17,6 @@ use Rattle.tree.specs.Stored.{each, flag, partBranch, propBranch, markerNumber,
 use Rattle.tree.specs.Syntax.{PropPart, value, Prop, ConflictMarker, ConflictMarkerKind, ambiguity, precedence, SpecializeKind, extend, specialize, RepeatKind, optional, zeroOrMore, oneOrMore, CharClass, asciiLetter, asciiLowercase, asciiUppercase, digit, whitespace, eof, Expression, special, inline, choice, sequence, empty, repeat, set, any, class, Expressions, Slots, expressions}
 use Rattle.tree.proofs.ExpressionsFit.{expression-kind}
 use Rattle.laws.specs.Starts.{onPart, onProp, onMarker, onExpression, onExpressions, onSlots}
-use Rattle.laws.proofs.Lists.{append-one}
 use Rattle.laws.proofs.Fine.{U, Word}
 use Rattle.laws.proofs.Readable.{GoodPart, good-value, good-braced, GoodProp, GoodMarker, Grade, Each, each-none, each-more, Item, item-name, item-special, item-inline, item-choice, item-sequence, item-empty, item-repeat, item-literal, item-set, item-any, item-class, InSlots, in-last, in-slot, Arm, arm-sequence, arm-item, Arms, arms-none, arms-more, Level, level-choice, level-arm, Readable}
 use Rattle.laws.proofs.Decode.{pick, partIn, allIn, propIn, spanIn, markerIn, expressionBy, expressionIn, expressionsIn, slotsIn}
@@ -177,7 +177,7 @@ module _ (R : Grade) (back : (e : Expression U) → R e → expressionIn (expres
   markers-in : (ms : List (ConflictMarker U)) {ns : List (ConflictMarker U)} → Every GoodMarker ns → (bs : Branches) → slotsIn ms (each markerBranch (map (onMarker zeroed) ns) bs) ≡ slotsIn (ms ++ ns) bs
   unfolding expressionIn each
   markers-in ms every-none bs = rw (append-nil ms)
-  markers-in ms (every-more {x = n} {xs = ns} g q) bs = rw (marker-plain (onMarker zeroed n), marker-back n g, markers-in (ms ++ n ∷ []) q bs, append-one ms n ns)
+  markers-in ms (every-more {x = n} {xs = ns} g q) bs = rw (marker-plain (onMarker zeroed n), marker-back n g, markers-in (ms ++ n ∷ []) q bs, append-snoc ms n ns)
 
   slots-back : {s : Slots U} → InSlots R s → slotsIn [] (slotBranches (onSlots zeroed s)) ≡ s
   unfolding expressionBranch onExpression expressionIn

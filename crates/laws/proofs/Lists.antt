@@ -2,7 +2,7 @@
 -- Assumes nothing.
 use mathlib.Core.Path.{_≡_, refl, sym}
 use mathlib.Core.Bool.{Bool, true, false}
-use mathlib.Core.List.{List, [], _∷_, _++_, map, append-assoc, map-append}
+use mathlib.Core.List.{List, [], _∷_, map, map-append}
 use mathlib.Core.Option.{Option, none, some}
 use Rattle.basics.specs.Basics.{concat, lastOf, firstOf, isEmpty, orNot, keepIf, kept, picked}
 use Rattle.basics.proofs.Tests.{impossible}
@@ -15,10 +15,6 @@ untrue false h = refl
 abbrev pub onOption : {A B : Type 0} → (A → B) → Option A → Option B
 onOption g none = none
 onOption g (some a) = some (g a)
-
-module _ {A : Type 0} where
-  pub append-one : (xs : List A) (y : A) (ys : List A) → (xs ++ y ∷ []) ++ ys ≡ xs ++ y ∷ ys
-  append-one xs y ys = append-assoc xs (y ∷ []) ys
 
 module _ {A B : Type 0} (g : A → B) where
   pub map-isEmpty : (xs : List A) → isEmpty (map g xs) ≡ isEmpty xs

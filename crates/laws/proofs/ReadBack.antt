@@ -9,13 +9,13 @@ use mathlib.Core.Bool.{Bool, true, false}
 use mathlib.Core.List.{List, [], _∷_, _++_, append-nil}
 use mathlib.Core.Option.{Option, none, some}
 use lib.ListN.{length}
+use lib.Seq.{append-snoc}
 use Rattle.basics.specs.Basics.{firstOf}
 use Rattle.lexer.specs.Tokens.{Kind, Tokens, token, eof}
 use Rattle.lexer.specs.Escapes.{decodeString}
 use Rattle.tree.specs.Syntax.{Identifier}
 use Rattle.notation.specs.Parser.{read, Parser, andThen, _>>=_, _>>_, pure, choose, here, kindOf, kind, arrive, next, nameIn, atIn, isMark, says, eatIf, eat, eatName, eatAt, must, expect, expectName, taken, expectString, parseIdentifier, size, turns, loop, separate, untilStep, until, comma, commaOrNot, nothing}
 use Rattle.spelling.specs.NormalText.{each, eachAfter, commas, mark}
-use Rattle.laws.proofs.Lists.{append-one}
 use Rattle.laws.proofs.Fine.{U}
 use Rattle.laws.proofs.Every.{Every, every-none, every-more}
 
@@ -139,7 +139,7 @@ module _ {A : Type 0} (step : List A → Parser U (Option A)) (rest : List Kind)
   unfolding turns
   turns-back zero d before ks xs h b = absurd (omega arith)
   turns-back (suc n) d before ks [] h (over r) = rw (append-nil before) (bind-reads _ r (pure-reads before rest))
-  turns-back (suc n) d before ks (x ∷ xs) h (turn e ls r less b) = rw (← append-one before x xs) (bind-reads _ r (turns-back n e (before ++ x ∷ []) ls xs (omega arith) b))
+  turns-back (suc n) d before ks (x ∷ xs) h (turn e ls r less b) = rw (← append-snoc before x xs) (bind-reads _ r (turns-back n e (before ++ x ∷ []) ls xs (omega arith) b))
 
   pub loop-reads : (ks : List Kind) (xs : List A) → Back 1 [] ks xs → Reads (loop step) ks xs rest
   unfolding loop

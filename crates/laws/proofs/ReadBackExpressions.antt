@@ -7,6 +7,7 @@ use mathlib.Core.Bool.{Bool, true, false, _&&_, _||_}
 use mathlib.Core.List.{List, [], _∷_, _++_, append-nil}
 use mathlib.Core.Option.{Option, none, some}
 use lib.ListN.{length}
+use lib.Seq.{append-snoc}
 use Rattle.basics.specs.Basics.{letters, same, spells, firstOf}
 use Rattle.basics.proofs.Tests.{clash}
 use Rattle.characters.specs.Spans.{Span}
@@ -18,7 +19,6 @@ use Rattle.notation.specs.Expressions.{Item as SeqItem, marker, expression, cla
 use Rattle.spelling.specs.Spelling.{quoted, spansText}
 use Rattle.spelling.specs.NormalText.{each, mark, markerSign, specializeWord, className, propsTokens, isChoice, markerTokens, expressionTokens, argumentsTokens, moreArguments, moreArms, slotsTokens, bodyTokens}
 use Rattle.spelling.proofs.Back.{decode-back, spans-back}
-use Rattle.laws.proofs.Lists.{append-one}
 use Rattle.laws.proofs.Fine.{U, ReadBack}
 use Rattle.laws.proofs.Readable.{GoodProp, blank, soleBlank, lone, Grade, Each, each-none, each-more, Item, item-name, item-special, item-inline, item-choice, item-sequence, item-empty, item-repeat, item-literal, item-set, item-any, item-class, InSlots, in-last, in-slot, Arm, arm-sequence, arm-item, Arms, arms-none, arms-more, Level, level-choice, level-arm, Readable, readable-up, item-stacked}
 use Rattle.laws.proofs.ReadBack.{Reads, bind-reads, pure-reads, choose-true, choose-false, here-reads, kind-reads, next-reads, eat-yes, eat-no, expect-reads, parseIdentifier-reads, Back, over, turn, loop-reads, comma-reads}
@@ -109,9 +109,9 @@ module _ (R : Grade) (below : Parser U (Expression U)) (below-reads : (e : Expre
   name-first []ᴱ ks a = let n = after-name a in (rw (n .no-square, n .no-brace), n .no-dot)
   name-first (e ∷ᴱ es) ks a = (refl, refl)
 
-  and-false : (b c : Bool) → c ≡ false → (b && c) ≡ false
-  and-false true c h = h
-  and-false false c h = refl
+  and-fails : (b c : Bool) → c ≡ false → (b && c) ≡ false
+  and-fails true c h = h
+  and-fails false c h = refl
 
   paren-reads : (e : Expression U) → R e → blank e ≡ false → (ks : List Kind) → Reads (parseExpressionInner below) (mark "(" (expressionTokens e (mark ")" ks))) e ks
   unfolding parseExpressionInner innerBy parseParenthesizedExpression
@@ -125,7 +125,7 @@ module _ (R : Grade) (below : Parser U (Expression U)) (below-reads : (e : Expre
   name-reads t es n q b ks a =
       let f = name-first es ks a in
       bind-reads _ (here-reads _) (bind-reads _ (kind-reads _ refl) (if-false _ n (bind-reads _ (next-reads _ _) (bind-reads _ (kind-reads _ refl)
-      (if-false _ (f .0) (if-false _ (and-false (spells "std" t) _ (f .1))
+      (if-false _ (f .0) (if-false _ (and-fails (spells "std" t) _ (f .1))
       (bind-reads _ (arguments-reads es q b ks (after-name a .no-angle)) (rw (expressions-list es) (pure-reads _ ks)))))))))
 
   rule-reads : (t : List ℕ) (ps : List (Prop U)) (e : Expression U) → spells "_" t ≡ false → Every GoodProp ps → R e → (ks : List Kind)
@@ -205,7 +205,7 @@ module _ (R : Grade) (below : Parser U (Expression U)) (below-reads : (e : Expre
   slots-markers : (ms ns : List (ConflictMarker U)) (l : List (SeqItem U)) → slots ms (markersOf ns l) ≡ slots (ms ++ ns) l
   unfolding slots markersOf
   slots-markers ms [] l = rw (append-nil ms)
-  slots-markers ms (n ∷ ns) l = slots-markers (ms ++ n ∷ []) ns l ∙ rw (append-one ms n ns)
+  slots-markers ms (n ∷ ns) l = slots-markers (ms ++ n ∷ []) ns l ∙ rw (append-snoc ms n ns)
 
   slots-items : (s : Slots U) → slots [] (itemsOf s) ≡ s
   unfolding slots itemsOf

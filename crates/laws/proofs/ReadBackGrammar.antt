@@ -8,6 +8,7 @@ use mathlib.Core.Bool.{Bool, true, false, not}
 use mathlib.Core.List.{List, [], _∷_, _++_, map, append-nil}
 use mathlib.Core.Option.{Option, none, some}
 use lib.ListN.{length, length-append}
+use lib.Seq.{append-snoc}
 use Rattle.basics.specs.Basics.{same, concat, lastOf, firstOf, isEmpty, picked}
 use Rattle.basics.proofs.Tests.{impossible, clash}
 use Rattle.basics.proofs.Lists.{picked-append}
@@ -19,7 +20,6 @@ use Rattle.notation.specs.Declarations.{parseSource, parseExternalTokens, parse
 use Rattle.spelling.specs.Spelling.{quoted}
 use Rattle.spelling.specs.NormalText.{each, commas, mark, at, word, string, identifier, specializeWord, precTokens, fromTokens, bodyTokens, topRuleTokens, precItemTokens, externalSetTokens, declarationTokens, externalPropTokens}
 use Rattle.spelling.proofs.Back.{decode-back}
-use Rattle.laws.proofs.Lists.{append-one}
 use Rattle.laws.proofs.Fine.{U}
 use Rattle.laws.proofs.Readable.{GoodName}
 use Rattle.laws.proofs.MeetsExpressions.{GoodRule}
@@ -288,7 +288,7 @@ declarations-fit : (ds done : List (Declaration U)) (ms : List (Member U)) → E
 declarations-fit [] done ms every-none s t = t _
 declarations-fit (d ∷ ds) done ms (every-more g q) s t =
     fit-more {before = map declaration done} {m = declaration d} {ms = map declaration ds ++ ms} (g, rw (picked-all declared declaration (λ x. refl) done) (singles-fresh done d ds s))
-    (rw (← map-one done d) (declarations-fit ds (done ++ d ∷ []) ms q (rw (append-one done d ds) s) t))
+    (rw (← map-one done d) (declarations-fit ds (done ++ d ∷ []) ms q (rw (append-snoc done d ds) s) t))
 
 members-fit : (g : GrammarDeclaration U) → GoodGrammar g → AllFit [] (members g)
 members-fit g h = declarations-fit (g .declarations) [] _ (h .declarations) (h .singles) (tail-fits g (h .dialects))

@@ -8,6 +8,7 @@ use mathlib.Core.Bool.{false}
 use mathlib.Core.List.{List, [], _∷_, _++_, map, append-nil}
 use mathlib.Core.Option.{Option, none, some}
 use lib.ListN.{length}
+use lib.Seq.{append-snoc}
 use Rattle.basics.specs.Basics.{same, firstOf, isEmpty, picked}
 use Rattle.basics.proofs.Lists.{picked-append}
 use Rattle.lexer.specs.Tokens.{Kind}
@@ -16,7 +17,6 @@ use Rattle.notation.specs.Parser.{Parser, _>>_, isMark, eat, expect, untilStep,
 use Rattle.notation.specs.Members.{TokenMember, tokenPrecedence, tokenConflict, tokenRule, tokenLiteral, LocalMember, localPrecedence, localRule, localFallback}
 use Rattle.notation.specs.Declarations.{tokenMemberBy, parseTokenMember, parseTokens, parseLocalMember, parseLocalTokens}
 use Rattle.spelling.specs.NormalText.{each, eachAfter, commas, mark, at, ruleTokens, referenceTokens, tokenPrecTokens, tokenConflictTokens, literalTokens, namedNodeTokens, fallbackTokens, declarationTokens}
-use Rattle.laws.proofs.Lists.{append-one}
 use Rattle.laws.proofs.Fine.{U}
 use Rattle.laws.proofs.MeetsExpressions.{Found, found-none, found-some, GoodRule}
 use Rattle.laws.proofs.Good.{Outer, GoodTokenPrec, GoodTokenConflict, GoodLiteral, GoodNode}
@@ -203,7 +203,7 @@ plain-back (x ∷ xs) (every-more g q) before rest ks ys b =
     let ls = each localMemberTokens xs ks in
     let l = plain-longer g ls in
     let less : length ls + 1 < length (localMemberTokens x ls) + 1 = omega arith in
-    turn 1 ls (local-step before x _ ls (plain-begins g ls) (local-reads before x g ls)) less (plain-back xs q (before ++ x ∷ []) rest ks ys (rw (append-one before x xs) b))
+    turn 1 ls (local-step before x _ ls (plain-begins g ls) (local-reads before x g ls)) less (plain-back xs q (before ++ x ∷ []) rest ks ys (rw (append-snoc before x xs) b))
 
 module _ (ps : List (TokenPrecDeclaration U)) (rs : List (RuleDeclaration U)) where
   abbrev pub plainMembers : List (LocalMember U)

@@ -24,7 +24,10 @@ of-len-requires : tie.Need-of-len-requires
 of-len-requires c κs = search needs
 
 returns : tie.Need-returns
-returns c = simp (bytes-at (now (c .before .before .before .before .before .before .before .args .text)) (c .before .before .before .before .before .before .before .args .at) (c .before .before .before .before .before .before .before .pre), ← c .before .before .before .before .before .byte-from .ensures, ← c .before .before .before .before .byte-from2 .ensures, ← c .before .before .before .byte-from3 .ensures, ← c .before .before .byte-from4 .ensures, ← c .before .lead-len .ensures, c .of-len .ensures)
+returns c =
+    let c3 = c .before .before .before in
+    let c7 = c3 .before .before .before .before in
+    simp (bytes-at (now (c7 .args .text)) (c7 .args .at) (c7 .pre), ← c3 .before .before .byte-from .ensures, ← c3 .before .byte-from2 .ensures, ← c3 .byte-from3 .ensures, ← c .before .before .byte-from4 .ensures, ← c .before .lead-len .ensures, c .of-len .ensures)
 
 pub decode-wide-spec : {M : Type 1} → statement M
 decode-wide-spec =

@@ -89,9 +89,13 @@ scan-word-requires c κs = search needs
 
 returns-4 : tie.Need-returns-4
 returns-4 c =
-    let d = sym (c .before .before .before .before .before .before .before .before .before .before .before .decode .ensures) ∙ (c .before .before .before .before .before .before .before .before .before .c .given .1) in
-    let h = (c .before .before .before .before .before .before .before .match2 .rest) in
-    reads _ _ d (c .before .before .before .before .before .before .before .before .before .before .before .before .before .pre) (solid-word _ _ _ (h .0 .0 .1) (h .0 .1) (h .1) (sym (c .before .before .before .before .before .before .opens-set .ensures) ∙ (c .before .before .before .before .before .if1 .left)) (sym (c .before .before .before .before .is-punctuation .ensures) ∙ (c .before .before .before .if2 .left)) (sym (c .before .before .is-word .ensures) ∙ (c .before .if3 .taken))) (word-lexes _ _ d _ (c .scan-word .ensures))
+    let c3 = c .before .before .before in
+    let c6 = c3 .before .before .before in
+    let c9 = c6 .before .before .before in
+    let c13 = c9 .before .before .before .before in
+    let d = sym (c9 .before .before .decode .ensures) ∙ (c9 .c .given .1) in
+    let h = (c6 .before .match2 .rest) in
+    reads _ _ d (c13 .pre) (solid-word _ _ _ (h .0 .0 .1) (h .0 .1) (h .1) (sym (c6 .opens-set .ensures) ∙ (c3 .before .before .if1 .left)) (sym (c3 .before .is-punctuation .ensures) ∙ (c3 .if2 .left)) (sym (c .before .before .is-word .ensures) ∙ (c .before .if3 .taken))) (word-lexes _ _ d _ (c .scan-word .ensures))
 
 returns-5 : tie.Need-returns-5
 returns-5 c =
@@ -110,9 +114,12 @@ returns-7 c =
 
 returns-8 : tie.Need-returns-8
 returns-8 c =
-    let d = sym (c .before .before .before .before .before .before .before .before .before .before .decode .ensures) ∙ (c .before .before .before .before .before .before .before .before .c .given .1) in
-    let h = (c .before .before .before .before .before .before .match2 .rest) in
-    reads _ _ d (c .before .before .before .before .before .before .before .before .before .before .before .before .pre) (solid-none _ _ _ (h .0 .0 .1) (h .0 .1) (h .1) (sym (c .before .before .before .before .before .opens-set .ensures) ∙ (c .before .before .before .before .if1 .left)) (sym (c .before .before .before .is-punctuation .ensures) ∙ (c .before .before .if2 .left)) (sym (c .before .is-word .ensures) ∙ (c .if3 .left))) (nothing-lexes _ _ d)
+    let c3 = c .before .before .before in
+    let c6 = c3 .before .before .before in
+    let c10 = c6 .before .before .before .before in
+    let d = sym (c10 .decode .ensures) ∙ (c6 .before .before .c .given .1) in
+    let h = (c6 .match2 .rest) in
+    reads _ _ d (c10 .before .before .pre) (solid-none _ _ _ (h .0 .0 .1) (h .0 .1) (h .1) (sym (c3 .before .before .opens-set .ensures) ∙ (c3 .before .if1 .left)) (sym (c3 .is-punctuation .ensures) ∙ (c .before .before .if2 .left)) (sym (c .before .is-word .ensures) ∙ (c .if3 .left))) (nothing-lexes _ _ d)
 
 pub lex-spec : {M : Type 1} → statement M
 lex-spec =

@@ -141,9 +141,12 @@ trivia-less-2 c =
 
 trivia-again-2 : tie.Need-trivia-again-2 Inv-space μ-space Inv-line μ-line Inv-block μ-block Inv-trivia μ-trivia
 trivia-again-2 c =
-    let d₂ = sym (c .before .before .before .before .before .decode2 .ensures) ∙ (c .before .before .before .e .given .1) in (
-      omega (arith, (c .before .before .before .before .before .before .line .inv .0), (c .before .before .before .before .before .before .before .before .before .before .before .before .before .before .before .before .before .space .inv .0), (c .before .before .before .before .before .before .before .before .before .before .before .before .before .before .before .before .before .before .trivia .inv .0)),
-      ap (tokensAt _) (sym (run-off notTerminator _ _ d₂ (rw (sym (c .before .is-line-terminator .ensures) ∙ (c .if4 .taken))))) ∙ (c .before .before .before .before .before .before .line .inv .2),
+    let c3 = c .before .before .before in
+    let c6 = c3 .before .before .before in
+    let c17 = c6 .before .before .before .before .before .before .before .before .before .before .before in
+    let d₂ = sym (c3 .before .before .decode2 .ensures) ∙ (c3 .e .given .1) in (
+      omega (arith, (c6 .line .inv .0), (c17 .space .inv .0), (c17 .before .trivia .inv .0)),
+      ap (tokensAt _) (sym (run-off notTerminator _ _ d₂ (rw (sym (c .before .is-line-terminator .ensures) ∙ (c .if4 .taken))))) ∙ (c6 .line .inv .2),
     )
 
 add-cursor-3 : tie.Need-add-cursor-3 Inv-space μ-space Inv-line μ-line Inv-block μ-block Inv-trivia μ-trivia
@@ -169,10 +172,13 @@ line-again c =
 
 returns-3 : tie.Need-returns-3 Inv-space μ-space Inv-line μ-line Inv-block μ-block Inv-trivia μ-trivia
 returns-3 c =
-    let d = sym (c .before .before .before .before .before .before .before .before .before .before .decode .ensures) ∙ (c .before .before .before .before .before .before .before .before .c .given .1) in (
-      omega (arith, (c .before .before .before .before .before .before .before .before .before .before .before .space .inv .0), (c .before .before .before .before .before .before .before .before .before .before .before .before .trivia .inv .0)),
-      sym (c .before .before .before .before .before .before .before .before .before .before .before .space .inv .1),
-      settled-slash _ _ d (sym (c .before .before .before .before .before .before .is-ecmascript-whitespace .ensures) ∙ not-true _ (c .before .before .before .before .before .if1 .taken)) (sym (c .before .before .before .before .peek .ensures) ∙ (c .before .before .before .if2 .left)) (λ q. (c .before .if3 .left) ((c .before .before .peek2 .ensures) ∙ q)) (λ q. (c .if5 .taken) ((c .before .before .peek2 .ensures) ∙ q)),
+    let c3 = c .before .before .before in
+    let c6 = c3 .before .before .before in
+    let c10 = c6 .before .before .before .before in
+    let d = sym (c10 .decode .ensures) ∙ (c6 .before .before .c .given .1) in (
+      omega (arith, (c10 .before .space .inv .0), (c10 .before .before .trivia .inv .0)),
+      sym (c10 .before .space .inv .1),
+      settled-slash _ _ d (sym (c6 .is-ecmascript-whitespace .ensures) ∙ not-true _ (c3 .before .before .if1 .taken)) (sym (c3 .before .peek .ensures) ∙ (c3 .if2 .left)) (λ q. (c .before .if3 .left) ((c .before .before .peek2 .ensures) ∙ q)) (λ q. (c .if5 .taken) ((c .before .before .peek2 .ensures) ∙ q)),
     )
 
 add-cursor-4 : tie.Need-add-cursor-4 Inv-space μ-space Inv-line μ-line Inv-block μ-block Inv-trivia μ-trivia
@@ -219,11 +225,14 @@ trivia-less-3 c =
 
 trivia-again-3 : tie.Need-trivia-again-3 Inv-space μ-space Inv-line μ-line Inv-block μ-block Inv-trivia μ-trivia
 trivia-again-3 c =
-    let d₃ = sym (c .before .before .before .before .before .before .decode3 .ensures) ∙ (c .before .before .before .before .e2 .given .1) in
+    let c4 = c .before .before .before .before in
+    let c7 = c4 .before .before .before in
+    let c19 = c7 .before .before .before .before .before .before .before .before .before .before .before .before in
+    let d₃ = sym (c4 .before .before .decode3 .ensures) ∙ (c4 .e2 .given .1) in
     let f = scalar-fits _ _ d₃ in
     let g = shut-inside _ _ (sym (c .before .peek3 .ensures) ∙ (c .if7 .taken)) in (
-      omega (arith, (c .before .before .before .before .before .before .before .block .inv .0), (c .before .before .before .before .before .before .before .before .before .before .before .before .before .before .before .before .before .before .before .space .inv .0), (c .before .before .before .before .before .before .before .before .before .before .before .before .before .before .before .before .before .before .before .before .trivia .inv .0)),
-      sym (block-shut _ _ _ d₃ (c .before .before .if6 .taken) (sym (c .before .peek3 .ensures) ∙ (c .if7 .taken))) ∙ (c .before .before .before .before .before .before .before .block .inv .2),
+      omega (arith, (c7 .block .inv .0), (c19 .space .inv .0), (c19 .before .trivia .inv .0)),
+      sym (block-shut _ _ _ d₃ (c .before .before .if6 .taken) (sym (c .before .peek3 .ensures) ∙ (c .if7 .taken))) ∙ (c7 .block .inv .2),
     )
 
 block-less : tie.Need-block-less Inv-space μ-space Inv-line μ-line Inv-block μ-block Inv-trivia μ-trivia

@@ -47,7 +47,9 @@ loop-less c = omega (arith, begun _ _ _ _ (sym (c .before .before .begins .ensur
 
 loop-again : tie.Need-loop-again Inv-loop μ-loop
 loop-again c =
-    (c .sibling .ensures .0, c .before .before .before .before .before .before .loop .inv .1, sym (many-child (c .before .before .before .before .before .before .before .groups .result) _ (c .before .before .before .before .before .before .loop .g) _ _ _ (omega arith) (c .before .before .before .before .if1 .left) (c .before .before .before .if2 .taken) (sym (c .before .before .begins .ensures) ∙ c .before .if3 .taken) (c .sibling .ensures .1)) ∙ c .before .before .before .before .before .before .loop .inv .2)
+    let c3 = c .before .before .before in
+    let c6 = c3 .before .before .before in
+    (c .sibling .ensures .0, c6 .loop .inv .1, sym (many-child (c6 .before .groups .result) _ (c6 .loop .g) _ _ _ (omega arith) (c3 .before .if1 .left) (c3 .if2 .taken) (sym (c .before .before .begins .ensures) ∙ c .before .if3 .taken) (c .sibling .ensures .1)) ∙ c6 .loop .inv .2)
 
 add-g : tie.Need-add-g Inv-loop μ-loop
 add-g c = omega arith
@@ -57,14 +59,18 @@ loop-less-2 c = omega arith
 
 loop-again-2 : tie.Need-loop-again-2 Inv-loop μ-loop
 loop-again-2 c =
-    (c .before .before .before .before .before .loop .inv .0, c .before .before .before .before .before .loop .inv .1, sym (many-over (c .before .before .before .before .before .before .groups .result) _ (c .before .before .before .before .before .loop .g) 0 _ _ (omega arith) (c .before .before .before .if1 .left) (c .before .before .if2 .taken) (sym (c .before .begins .ensures) ∙ c .if3 .left)) ∙ c .before .before .before .before .before .loop .inv .2)
+    let c3 = c .before .before .before in
+    let c6 = c3 .before .before .before in
+    (c3 .before .before .loop .inv .0, c3 .before .before .loop .inv .1, sym (many-over (c6 .groups .result) _ (c3 .before .before .loop .g) 0 _ _ (omega arith) (c3 .if1 .left) (c .before .before .if2 .taken) (sym (c .before .begins .ensures) ∙ c .if3 .left)) ∙ c3 .before .before .loop .inv .2)
 
 begins-requires-2 : tie.Need-begins-requires-2 Inv-loop μ-loop
 begins-requires-2 c κs = c .before .before .before .before .loop .inv .0
 
 returns-2 : tie.Need-returns-2 Inv-loop μ-loop
 returns-2 c =
-    sym (one-missing (c .before .before .before .before .before .before .before .groups .result) _ (c .before .before .before .before .before .before .loop .g) 0 _ _ (omega arith) (c .before .before .before .before .if1 .left) (c .before .before .before .if2 .left) (c .before .before .if4 .taken) (sym (c .before .begins2 .ensures) ∙ not-true _ (c .if5 .taken))) ∙ c .before .before .before .before .before .before .loop .inv .2
+    let c3 = c .before .before .before in
+    let c6 = c3 .before .before .before in
+    sym (one-missing (c6 .before .groups .result) _ (c6 .loop .g) 0 _ _ (omega arith) (c3 .before .if1 .left) (c3 .if2 .left) (c .before .before .if4 .taken) (sym (c .before .begins2 .ensures) ∙ not-true _ (c .if5 .taken))) ∙ c6 .loop .inv .2
 
 sub-left-2 : tie.Need-sub-left-2 Inv-loop μ-loop
 sub-left-2 c = begun _ _ _ _ (sym (c .before .begins2 .ensures) ∙ not-false _ (c .if5 .left))
@@ -79,11 +85,13 @@ loop-less-3 : tie.Need-loop-less-3 Inv-loop μ-loop
 loop-less-3 c = omega (arith, begun _ _ _ _ (sym (c .before .before .begins2 .ensures) ∙ not-false _ (c .before .if5 .left)))
 
 loop-again-3 : tie.Need-loop-again-3 Inv-loop μ-loop
-loop-again-3 c = (
-  c .sibling2 .ensures .0,
-  c .before .before .before .before .before .before .before .loop .inv .1,
-  sym (one-child (c .before .before .before .before .before .before .before .before .groups .result) _ (c .before .before .before .before .before .before .before .loop .g) _ _ _ (omega arith) (c .before .before .before .before .before .if1 .left) (c .before .before .before .before .if2 .left) (c .before .before .before .if4 .taken) (sym (c .before .before .begins2 .ensures) ∙ not-false _ (c .before .if5 .left)) (c .sibling2 .ensures .1)) ∙ c .before .before .before .before .before .before .before .loop .inv .2,
-)
+loop-again-3 c =
+    let c3 = c .before .before .before in
+    let c7 = c3 .before .before .before .before in (
+      c .sibling2 .ensures .0,
+      c7 .loop .inv .1,
+      sym (one-child (c7 .before .groups .result) _ (c7 .loop .g) _ _ _ (omega arith) (c3 .before .before .if1 .left) (c3 .before .if2 .left) (c3 .if4 .taken) (sym (c .before .before .begins2 .ensures) ∙ not-false _ (c .before .if5 .left)) (c .sibling2 .ensures .1)) ∙ c7 .loop .inv .2,
+    )
 
 begins-requires-3 : tie.Need-begins-requires-3 Inv-loop μ-loop
 begins-requires-3 c κs = c .before .before .before .before .loop .inv .0
@@ -101,11 +109,13 @@ loop-less-4 : tie.Need-loop-less-4 Inv-loop μ-loop
 loop-less-4 c = omega (arith, begun _ _ _ _ (sym (c .before .before .begins3 .ensures) ∙ c .before .if6 .taken))
 
 loop-again-4 : tie.Need-loop-again-4 Inv-loop μ-loop
-loop-again-4 c = (
-  c .sibling3 .ensures .0,
-  c .before .before .before .before .before .before .before .loop .inv .1,
-  sym (most-child (c .before .before .before .before .before .before .before .before .groups .result) _ (c .before .before .before .before .before .before .before .loop .g) _ _ _ (omega arith) (c .before .before .before .before .before .if1 .left) (c .before .before .before .before .if2 .left) (c .before .before .before .if4 .left) (sym (c .before .before .begins3 .ensures) ∙ c .before .if6 .taken) (c .sibling3 .ensures .1)) ∙ c .before .before .before .before .before .before .before .loop .inv .2,
-)
+loop-again-4 c =
+    let c3 = c .before .before .before in
+    let c7 = c3 .before .before .before .before in (
+      c .sibling3 .ensures .0,
+      c7 .loop .inv .1,
+      sym (most-child (c7 .before .groups .result) _ (c7 .loop .g) _ _ _ (omega arith) (c3 .before .before .if1 .left) (c3 .before .if2 .left) (c3 .if4 .left) (sym (c .before .before .begins3 .ensures) ∙ c .before .if6 .taken) (c .sibling3 .ensures .1)) ∙ c7 .loop .inv .2,
+    )
 
 add-g-4 : tie.Need-add-g-4 Inv-loop μ-loop
 add-g-4 c = omega arith
@@ -115,7 +125,9 @@ loop-less-5 c = omega arith
 
 loop-again-5 : tie.Need-loop-again-5 Inv-loop μ-loop
 loop-again-5 c =
-    (c .before .before .before .before .before .before .loop .inv .0, c .before .before .before .before .before .before .loop .inv .1, sym (most-over (c .before .before .before .before .before .before .before .groups .result) _ (c .before .before .before .before .before .before .loop .g) 0 _ _ (omega arith) (c .before .before .before .before .if1 .left) (c .before .before .before .if2 .left) (c .before .before .if4 .left) (sym (c .before .begins3 .ensures) ∙ c .if6 .left)) ∙ c .before .before .before .before .before .before .loop .inv .2)
+    let c3 = c .before .before .before in
+    let c6 = c3 .before .before .before in
+    (c6 .loop .inv .0, c6 .loop .inv .1, sym (most-over (c6 .before .groups .result) _ (c6 .loop .g) 0 _ _ (omega arith) (c3 .before .if1 .left) (c3 .if2 .left) (c .before .before .if4 .left) (sym (c .before .begins3 .ensures) ∙ c .if6 .left)) ∙ c6 .loop .inv .2)
 
 returns-3 : tie.Need-returns-3 Inv-loop μ-loop
 returns-3 c = over-all (c .before .before .groups .result) _ (c .before .loop .g) _ _ (omega arith) ∙ c .before .loop .inv .2

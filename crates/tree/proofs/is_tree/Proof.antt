@@ -37,15 +37,18 @@ wide-requires c κs = tt
 
 returns-2 : tie.Need-returns-2 Inv-loop μ-loop
 returns-2 c =
-    no-tree _ _ _ (c .before .before .before .before .before .before .count .result) (sym (c .before .before .before .before .before .if1 .left)) (too-few _ _ _ _ (c .before .before .before .before .before .before .count .result - c .before .before .before .before .loop .i) (c .before .before .before .before .before .before .count .result - c .before .before .before .before .loop .i - 1) (omega arith) (c .before .before .before .before .loop .inv .2) (rw (c .before .wide .ensures, c .before .before .word .ensures) at (c .if2 .taken)))
+    let c4 = c .before .before .before .before in
+    no-tree _ _ _ (c4 .before .before .count .result) (sym (c4 .before .if1 .left)) (too-few _ _ _ _ (c4 .before .before .count .result - c4 .loop .i) (c4 .before .before .count .result - c4 .loop .i - 1) (omega arith) (c4 .loop .inv .2) (rw (c .before .wide .ensures, c .before .before .word .ensures) at (c .if2 .taken)))
 
 record-fits-requires : tie.Need-record-fits-requires Inv-loop μ-loop
 record-fits-requires c κs = (omega (arith, c .before .before .before .before .before .before .count .ensures), c .before .before .before .before .loop .inv .1)
 
 returns-3 : tie.Need-returns-3 Inv-loop μ-loop
 returns-3 c =
-    no-tree _ _ _ (c .before .before .before .before .before .before .before .before .count .result) (sym (c .before .before .before .before .before .before .before .if1 .left))
-    (misfit _ _ _ _ (c .before .before .before .before .before .before .before .before .count .result - c .before .before .before .before .before .before .loop .i) (c .before .before .before .before .before .before .before .before .count .result - c .before .before .before .before .before .before .loop .i - 1) (omega arith) (c .before .before .before .before .before .before .loop .inv .2) (rw (c .before .before .before .wide .ensures, c .before .before .before .before .word .ensures) at (c .before .before .if2 .left)) (sym (c .before .record-fits .ensures) ∙ not-true _ (c .if3 .taken)))
+    let c3 = c .before .before .before in
+    let c6 = c3 .before .before .before in
+    no-tree _ _ _ (c6 .before .before .count .result) (sym (c6 .before .if1 .left))
+    (misfit _ _ _ _ (c6 .before .before .count .result - c6 .loop .i) (c6 .before .before .count .result - c6 .loop .i - 1) (omega arith) (c6 .loop .inv .2) (rw (c3 .wide .ensures, c3 .before .word .ensures) at (c .before .before .if2 .left)) (sym (c .before .record-fits .ensures) ∙ not-true _ (c .if3 .taken)))
 
 add-depth : tie.Need-add-depth Inv-loop μ-loop
 add-depth c = omega (arith, grown-few (c .before .before .before .before .before .before .loop .inv .2), c .before .before .before .before .before .before .before .before .count .ensures)

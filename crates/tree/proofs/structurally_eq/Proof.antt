@@ -48,8 +48,11 @@ same-record-requires c κs = (
 
 returns-4 : tie.Need-returns-4 Inv-loop μ-loop
 returns-4 c =
-    sym (by-records (tree-of isExpression _ _ (sym (not-false _ (c .before .before .before .before .before .before .before .before .if1 .left)) ∙ c .before .before .before .before .before .before .before .before .before .is-tree .ensures)) (tree-of isExpression _ _ (sym (not-false _ (c .before .before .before .before .before .before .if2 .left)) ∙ c .before .before .before .before .before .before .before .is-tree2 .ensures)) (c .before .before .before .before .count .result) (c .before .before .before .before .count .ensures) (c .before .before .before .before .before .if3 .left)
-    ∙ ap comparisonOf (sym (c .before .before .before .loop .inv .1) ∙ from-no _ _ _ _ (c .before .before .before .loop .i) (c .before .before .before .before .count .result - c .before .before .before .loop .i) (c .before .before .before .before .count .result - (c .before .before .before .loop .i + 1)) (omega arith) (sym (c .before .same-record .ensures) ∙ not-true _ (c .if4 .taken))))
+    let c3 = c .before .before .before in
+    let c6 = c3 .before .before .before in
+    let c9 = c6 .before .before .before in
+    sym (by-records (tree-of isExpression _ _ (sym (not-false _ (c6 .before .before .if1 .left)) ∙ c9 .is-tree .ensures)) (tree-of isExpression _ _ (sym (not-false _ (c6 .if2 .left)) ∙ c6 .before .is-tree2 .ensures)) (c3 .before .count .result) (c3 .before .count .ensures) (c3 .before .before .if3 .left)
+    ∙ ap comparisonOf (sym (c3 .loop .inv .1) ∙ from-no _ _ _ _ (c3 .loop .i) (c3 .before .count .result - c3 .loop .i) (c3 .before .count .result - (c3 .loop .i + 1)) (omega arith) (sym (c .before .same-record .ensures) ∙ not-true _ (c .if4 .taken))))
 
 add-i : tie.Need-add-i Inv-loop μ-loop
 add-i c = omega arith
@@ -65,7 +68,9 @@ loop-again c = (
 
 returns-5 : tie.Need-returns-5 Inv-loop μ-loop
 returns-5 c =
-    sym (by-records (tree-of isExpression _ _ (sym (not-false _ (c .before .before .before .before .before .before .if1 .left)) ∙ c .before .before .before .before .before .before .before .is-tree .ensures)) (tree-of isExpression _ _ (sym (not-false _ (c .before .before .before .before .if2 .left)) ∙ c .before .before .before .before .before .is-tree2 .ensures)) (c .before .before .count .result) (c .before .before .count .ensures) (c .before .before .before .if3 .left)
+    let c3 = c .before .before .before in
+    let c6 = c3 .before .before .before in
+    sym (by-records (tree-of isExpression _ _ (sym (not-false _ (c6 .if1 .left)) ∙ c6 .before .is-tree .ensures)) (tree-of isExpression _ _ (sym (not-false _ (c3 .before .if2 .left)) ∙ c3 .before .before .is-tree2 .ensures)) (c .before .before .count .result) (c .before .before .count .ensures) (c3 .if3 .left)
     ∙ ap comparisonOf (sym (c .before .loop .inv .1) ∙ from-none _ _ _ _ (c .before .loop .i) (c .before .before .count .result - c .before .loop .i) (omega arith)))
 
 pub structurally-eq-spec : {M : Type 1} → statement M

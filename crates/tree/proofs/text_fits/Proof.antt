@@ -38,7 +38,9 @@ returns-2 c =
 returns-3 : tie.Need-returns-3
 unfolding textFits
 returns-3 c =
-    rw (← (c .before .before .before .before .before .before .before .wide .ensures ∙ c .before .before .before .before .before .before .before .before .word .ensures), ne-eqb _ _ (c .before .before .before .before .if1 .left), ← c .before .before .before .word3 .ensures, sym (c .before .before .has-text .ensures) ∙ not-false _ (c .before .if2 .left), ← (c .before .before .before .before .before .wide2 .ensures ∙ c .before .before .before .before .before .before .word2 .ensures), ne-eqb _ _ (c .if3 .taken))
+    let c3 = c .before .before .before in
+    let c6 = c3 .before .before .before in
+    rw (← (c6 .before .wide .ensures ∙ c6 .before .before .word .ensures), ne-eqb _ _ (c3 .before .if1 .left), ← c3 .word3 .ensures, sym (c .before .before .has-text .ensures) ∙ not-false _ (c .before .if2 .left), ← (c3 .before .before .wide2 .ensures ∙ c6 .word2 .ensures), ne-eqb _ _ (c .if3 .taken))
 
 sub-result : tie.Need-sub-result
 sub-result c = search needs

@@ -25,4 +25,6 @@ values-fit-spec =
     (λ c. rw (c .match .keys7, c .before .if3 .left) (simp and-true))
     (λ c. rw (c .match .keys8, c .before .if3 .left) (simp and-true))
     (λ c. rw (c .match .keys9, c .before .if3 .left) (simp and-true))
-    (λ c. rw (c .before .if3 .left) (simp (ne-eqb _ _ (c .match .rest .0 .0 .0 .0 .0 .0 .0 .0 .1), ne-eqb _ _ (c .match .rest .0 .0 .0 .0 .0 .0 .0 .1), ne-eqb _ _ (c .match .rest .0 .0 .0 .0 .0 .0 .1), ne-eqb _ _ (c .match .rest .0 .0 .0 .0 .0 .1), ne-eqb _ _ (c .match .rest .0 .0 .0 .0 .1), ne-eqb _ _ (c .match .rest .0 .0 .0 .1), ne-eqb _ _ (c .match .rest .0 .0 .1), ne-eqb _ _ (c .match .rest .0 .1), ne-eqb _ _ (c .match .rest .1), ne-eqb _ _ (c .before .before .if1 .left), and-true))))
+    (λ c. let r = c .match .rest in
+    let r5 = r .0 .0 .0 .0 .0 in
+    rw (c .before .if3 .left) (simp (ne-eqb _ _ (r5 .0 .0 .0 .1), ne-eqb _ _ (r5 .0 .0 .1), ne-eqb _ _ (r5 .0 .1), ne-eqb _ _ (r5 .1), ne-eqb _ _ (r .0 .0 .0 .0 .1), ne-eqb _ _ (r .0 .0 .0 .1), ne-eqb _ _ (r .0 .0 .1), ne-eqb _ _ (r .0 .1), ne-eqb _ _ (r .1), ne-eqb _ _ (c .before .before .if1 .left), and-true))))

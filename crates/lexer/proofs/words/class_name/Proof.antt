@@ -46,7 +46,10 @@ spells-requires-4 c κs = search needs
 returns-4 : tie.Need-returns-4
 unfolding classNamed
 returns-4 c =
-    rw (sym (c .before .before .before .before .before .before .before .before .before .before .spells .ensures) ∙ (c .before .before .before .before .before .before .before .before .before .if1 .left), sym (c .before .before .before .before .before .before .before .spells2 .ensures) ∙ (c .before .before .before .before .before .before .if2 .left), sym (c .before .before .before .before .spells3 .ensures) ∙ (c .before .before .before .if3 .left), sym (c .before .spells4 .ensures) ∙ (c .if4 .taken))
+    let c3 = c .before .before .before in
+    let c6 = c3 .before .before .before in
+    let c9 = c6 .before .before .before in
+    rw (sym (c9 .before .spells .ensures) ∙ (c9 .if1 .left), sym (c6 .before .spells2 .ensures) ∙ (c6 .if2 .left), sym (c3 .before .spells3 .ensures) ∙ (c3 .if3 .left), sym (c .before .spells4 .ensures) ∙ (c .if4 .taken))
 
 slice-aggregate-spells-5 : tie.Need-slice-aggregate-spells-5
 slice-aggregate-spells-5 c = search needs
