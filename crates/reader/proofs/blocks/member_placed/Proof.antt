@@ -2,7 +2,6 @@
 -- Assumes nothing.
 use native.Mathlib.Omega.{arith}
 use mathlib.Core.Path.{refl}
-use lib.ListN.{length}
 use Rattle.reader.proofs.MemberLaws.{joined-at, joined-not}
 use Rattle.reader.proofs.MemberAhead.{group-in}
 use Rattle.reader.proofs.Spreading.{begins-ready, settled-on, settled}

@@ -22,7 +22,7 @@ slice-aggregate-members-pass-2 : tie.Need-slice-aggregate-members-pass-2
 slice-aggregate-members-pass-2 c = search needs
 
 members-pass-requires : tie.Need-members-pass-requires
-members-pass-requires c κs = blank-begins (c .before .before .before .before .before .before .before .before .before .pre .0) (c .before .before .before .before .before .before .before .before .before .pre .1) (c .before .before .before .before .before .before .before .before .before .pre .2)
+members-pass-requires c κs = blank-begins (c .before .before .before .before .before .before .before .before .before .pre .0 .lies) (c .before .before .before .before .before .before .before .before .before .pre .0 .small) (c .before .before .before .before .before .before .before .before .before .pre .1) (c .before .before .before .before .before .before .before .before .before .pre .2)
 
 enum-known-cause : tie.Need-enum-known-cause
 enum-known-cause c = search needs

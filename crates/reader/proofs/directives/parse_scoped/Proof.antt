@@ -9,7 +9,7 @@ use Rattle.reader.proofs.directives.parse_scoped.Statement.{statement}
 use Rattle.reader.proofs.directives.parse_scoped.Tie as tie
 
 holds-top-requires : tie.Need-holds-top-requires
-holds-top-requires c κs = search needs
+holds-top-requires c κs = (c .before .before .before .before .before .pre .0 .lies, c .before .before .before .before .before .pre .0 .small)
 
 parse-block-requires : tie.Need-parse-block-requires
 parse-block-requires c κs = search needs

@@ -2,7 +2,6 @@
 -- Assumes nothing.
 use native.Mathlib.Omega.{arith}
 use mathlib.Core.Path.{refl}
-use lib.ListN.{length}
 use Rattle.reader.proofs.WholeLaws.{declared-at, declared-not}
 use Rattle.reader.proofs.Placing.{place-in, begins-roomy, once-on, placed-once}
 use borrow.Author.Needs.{needs}
