@@ -2,7 +2,7 @@
 -- Assumes nothing.
 use Prim.Native.Nat.{ℕ}
 use native.Mathlib.Omega.{arith}
-use mathlib.Core.Path.{_≡_, refl, ap, sym, _∙_}
+use mathlib.Core.Path.{_≡_, refl}
 use mathlib.Core.Bool.{Bool, true, false}
 use mathlib.Core.List.{List}
 use mathlib.Core.Option.{Option, none, some}
@@ -19,7 +19,7 @@ use Rattle.tokens.specs.declared.Arrived.{Arrived}
 use Rattle.tokens.specs.declared.Arrived.the-variants.{At, Refused}
 use Rattle.tokens.proofs.Stream.{name-of, at-of, name-whole}
 use Rattle.reader.specs.Directives.{memberKind}
-use Rattle.reader.specs.Ahead.{externalKind, externalAhead, plainKind, keywordKind, kindAhead}
+use Rattle.reader.specs.Ahead.{externalKind, externalAhead, keywordKind, kindAhead}
 
 -- ------------------------------------------------------------------ parsers that read one kind
 

@@ -7,33 +7,31 @@ use mathlib.Core.Path.{_≡_, refl, ap, sym, _∙_}
 use mathlib.Core.Bool.{Bool, true, false}
 use mathlib.Core.List.{List, [], _∷_, _++_, append-nil}
 use lib.Dec.{eqb, eqb→eq}
-use lib.ListN.{length, length-append, take, getD, List·getD-eq-default}
+use lib.ListN.{length, take, getD, List·getD-eq-default}
 use lib.Seq.{take-all}
 use Rattle.basics.specs.Basics.{if_then_else_}
 use Rattle.error.specs.declared.Cause.{Cause}
 use Rattle.error.specs.Promise.{causeNumber}
-use Rattle.tree.specs.Records.{Branch, Node, nodes, width, textsOf}
+use Rattle.tree.specs.Records.{Node, nodes, width, textsOf}
 use Rattle.notation.specs.Parser.{refused}
 use Rattle.notation.specs.Members.{TokenMember, LocalMember, SkipMember, ExternalMember}
-use Rattle.tokens.specs.Promise.{stream}
+use Rattle.tokens.specs.Promise.{stream, LiesIn}
 use Rattle.parser.specs.Storing.{lent, Stores, flat}
-use Rattle.parser.specs.Steps.{placed}
 use Rattle.tokens.specs.declared.Current.{Current}
 use Rattle.parser.specs.declared.props.Listed.{Listed}
 use Rattle.parser.specs.declared.props.Listed.the-variants.{Done, Refused}
 use Rattle.parser.proofs.Onward.{placed-in}
-use Rattle.parser.proofs.Lists.{flat-append}
-use Rattle.reader.specs.Groups.{allOf, groupsOf, Gathers}
+use Rattle.reader.specs.Groups.{groupsOf, Gathers}
 use Rattle.reader.specs.Places.{placeIn, groupAt, Fills, sum, linedUp, Blank, Begins}
 use Rattle.reader.specs.Blocks.{MemberOf, membersOf, kindOf, branchesOf, kindsOf, placeOf, blockCount, Spreads, SpreadsTo, Roomy}
 use Rattle.reader.specs.declared.blocks.Block.{Block}
 use Rattle.reader.specs.declared.blocks.Block.the-variants.{Tokens, LocalTokens, ExternalTokens, Specializer, Skip}
-use Rattle.reader.proofs.GroupSizes.{number, nodes-of, bytes-of, kinds-nonzero, kinds-few}
-use Rattle.reader.proofs.Grouping.{together, weighs}
-use Rattle.reader.proofs.BlockGathered.{block-once, front-none, stores-sizes, stores-again}
-use Rattle.reader.proofs.PlaceLaws.{Distinct, place-within}
-use Rattle.reader.proofs.GroupPlaces.{Coding, in-words, in-bytes, groups-on, lined-at, lined-length, sum-part}
-use Rattle.reader.proofs.GroupFilled.{sizes-are, lined-are, groups-written}
+use Rattle.reader.proofs.GroupSizes.{number, nodes-of, bytes-of, block-weighs, kinds-nonzero, kinds-few}
+use Rattle.reader.proofs.Gathered.{together}
+use Rattle.reader.proofs.BlockGathered.{front-none, stores-sizes, stores-again}
+use Rattle.reader.proofs.PlaceLaws.{Distinct}
+use Rattle.reader.proofs.GroupPlaces.{in-words, in-bytes, nodes-on, lined-at, lined-length, sum-part, sizes-are, lined-are}
+use Rattle.reader.proofs.GroupFilled.{groups-written}
 
 -- ------------------------------------------------------------------ the groups of a block
 
@@ -98,9 +96,7 @@ module _ (b : Block) (ms : List (MemberOf b)) where
   first-on i h = go (decLt i (length (kindsOf b)))
     where
       go : Dec (i < length (kindsOf b)) → firstOf (suc i) ≡ firstOf i ++ groupOf i
-      go (yes l) =
-          ap (flat nodes) (groups-on (kindOf b) (branchesOf b) (kindsOf b) (kinds-distinct b) (kinds-nonzero b) i l ms)
-          ∙ flat-append nodes (groupsOf (kindOf b) (branchesOf b) (take i (kindsOf b)) ms) (groupAt (placeOf b) (branchesOf b) i ms)
+      go (yes l) = nodes-on (kindOf b) (branchesOf b) (kindsOf b) (kinds-distinct b) (kinds-nonzero b) i l ms
       go (no l) =
           let a : take (suc i) (kindsOf b) ≡ kindsOf b = take-all (suc i) (kindsOf b) (omega arith) in
           let c : take i (kindsOf b) ≡ kindsOf b = take-all i (kindsOf b) (omega arith) in
@@ -138,11 +134,11 @@ zeros (suc (suc (suc (suc g)))) = refl
 pub block-blank : Blank blockCount (0 ∷ 0 ∷ 0 ∷ 0 ∷ [])
 block-blank = record { all = refl; none = zeros }
 
-pub blank-begins : {s : List ℕ} {t : Current} {n x : ℕ} → Roomy s t n x → {ps qs : List ℕ} → Blank blockCount ps → Blank blockCount qs → Begins blockCount 0x28000000 s t ps qs
-blank-begins r a b =
+pub blank-begins : {s : List ℕ} {t : Current} → LiesIn s 0 t → length s ≤ 0x10000 → {ps qs : List ℕ} → Blank blockCount ps → Blank blockCount qs → Begins blockCount 0x28000000 s t ps qs
+blank-begins l z a b =
     record {
-      lies = r .lies;
-      small = r .small;
+      lies = l;
+      small = z;
       words-all = a .all;
       bytes-all = b .all;
       words-few = λ g. let k = a .none g in omega arith;
@@ -156,10 +152,10 @@ module _ {b : Block} {s : List ℕ} {t : Current} {n x : ℕ} (r : Roomy s t n x
 
   -- what is taken
   taken-words : m ≡ width * length (every b found)
-  taken-words = let a = g .gathers .lays .stores .words-end in let c = weighs (block-once b) nodes-of found in omega arith
+  taken-words = let a = g .gathers .lays .stores .words-end in let c = block-weighs b nodes-of found in omega arith
 
   taken-bytes : y ≡ length (textsOf (every b found))
-  taken-bytes = let a = g .gathers .lays .stores .texts-end in let c = weighs (block-once b) bytes-of found in omega arith
+  taken-bytes = let a = g .gathers .lays .stores .texts-end in let c = block-weighs b bytes-of found in omega arith
 
   taken-few : (n + m ≤ 0x28000000) × (x + y ≤ 0x28000000)
   taken-few =
@@ -183,6 +179,12 @@ module _ {b : Block} {s : List ℕ} {t : Current} {n x : ℕ} (r : Roomy s t n x
   all-bytes : length qs ≡ blockCount
   all-bytes = g .fills .same-bytes ∙ z₂ .all
 
+  words-room : blockCount ≤ length ps
+  words-room = let a = all-words in omega arith
+
+  bytes-room : blockCount ≤ length qs
+  bytes-room = let a = all-bytes in omega arith
+
   word-sizes : (i : ℕ) → i < blockCount → getD ps i 0 ≡ in-words .size (groupOf b found i)
   word-sizes i l = let a = g .fills .words-on i l in let c = z₁ .none i in omega arith
 
@@ -191,7 +193,7 @@ module _ {b : Block} {s : List ℕ} {t : Current} {n x : ℕ} (r : Roomy s t n x
 
   words-sum : sum ps ≡ m
   words-sum =
-      let a = sizes-are in-words (firstOf b found) (groupOf b found) blockCount (first-none b found) (first-on b found) ps all-words word-sizes blockCount (omega arith) in
+      let a = sizes-are in-words (firstOf b found) (groupOf b found) blockCount (first-none b found) (first-on b found) ps words-room word-sizes blockCount (omega arith) in
       let c = ap sum (take-all blockCount ps (let k = all-words in omega arith)) in
       let d = ap (in-words .size) (first-all b found) in
       let e = taken-words in
@@ -199,7 +201,7 @@ module _ {b : Block} {s : List ℕ} {t : Current} {n x : ℕ} (r : Roomy s t n x
 
   bytes-sum : sum qs ≡ y
   bytes-sum =
-      let a = sizes-are in-bytes (firstOf b found) (groupOf b found) blockCount (first-none b found) (first-on b found) qs all-bytes byte-sizes blockCount (omega arith) in
+      let a = sizes-are in-bytes (firstOf b found) (groupOf b found) blockCount (first-none b found) (first-on b found) qs bytes-room byte-sizes blockCount (omega arith) in
       let c = ap sum (take-all blockCount qs (let k = all-bytes in omega arith)) in
       let d = ap (in-bytes .size) (first-all b found) in
       let e = taken-bytes in
@@ -216,14 +218,14 @@ module _ {b : Block} {s : List ℕ} {t : Current} {n x : ℕ} (r : Roomy s t n x
       → Gathers (membersOf b (stream s t)) (groupsOf (kindOf b) (branchesOf b) (kindsOf b)) s t 1 (lent n ws x ts) v (lent (n + m) vs (x + y) us) children
   spread-none a c d e =
       let h = g .gathers in
-      let i = weighs (block-once b) nodes-of found in
-      let j = weighs (block-once b) bytes-of found in
+      let i = block-weighs b nodes-of found in
+      let j = block-weighs b bytes-of found in
       let k = h .lays .bound in
       let l = h .lays .space in
       record {
         members = found;
         gives = h .gives;
-        counted = weighs (block-once b) number found ∙ h .counted;
+        counted = block-weighs b number found ∙ h .counted;
         onward = h .onward;
         lays = record { stores = stores-sizes (stores-again n x (h .lays .stores)) (sym i) (sym j) a c d e; bound = omega arith; space = omega arith };
       }
@@ -267,10 +269,10 @@ module _ {b : Block} {s : List ℕ} {t : Current} {n x : ℕ} (r : Roomy s t n x
       fills = let q : k .gathers .members ≡ found = together (k .gathers .gives) (g .gathers .gives) in rw q at (k .fills)
 
       word-places : (i : ℕ) → i < blockCount → getD ps₁ i 0 ≡ n + in-words .size (firstOf b found i)
-      word-places = lined-are in-words (firstOf b found) (groupOf b found) blockCount (first-none b found) (first-on b found) n ps e₁ all-words word-sizes
+      word-places = lined-are in-words (firstOf b found) (groupOf b found) blockCount (first-none b found) (first-on b found) n ps e₁ words-room word-sizes
 
       byte-places : (i : ℕ) → i < blockCount → getD qs₁ i 0 ≡ x + in-bytes .size (firstOf b found i)
-      byte-places = lined-are in-bytes (firstOf b found) (groupOf b found) blockCount (first-none b found) (first-on b found) x qs e₂ all-bytes byte-sizes
+      byte-places = lined-are in-bytes (firstOf b found) (groupOf b found) blockCount (first-none b found) (first-on b found) x qs e₂ bytes-room byte-sizes
 
       spread-stores : Stores (every b found) (lent n ws x ts) (lent (n + m) vs (x + y) us)
       spread-stores =
@@ -294,14 +296,14 @@ module _ {b : Block} {s : List ℕ} {t : Current} {n x : ℕ} (r : Roomy s t n x
       spread-twice : Gathers (membersOf b (stream s t)) (groupsOf (kindOf b) (branchesOf b) (kindsOf b)) s t 1 (lent n ws x ts) v (lent (n + m) vs (x + y) us) children
       spread-twice =
           let h = g .gathers in
-          let i = weighs (block-once b) nodes-of found in
-          let j = weighs (block-once b) bytes-of found in
+          let i = block-weighs b nodes-of found in
+          let j = block-weighs b bytes-of found in
           let d = h .lays .bound in
           let l = h .lays .space in
           record {
             members = found;
             gives = h .gives;
-            counted = weighs (block-once b) number found ∙ h .counted;
+            counted = block-weighs b number found ∙ h .counted;
             onward = h .onward;
             lays = record { stores = spread-stores; bound = omega arith; space = omega arith };
           }

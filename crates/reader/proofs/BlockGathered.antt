@@ -1,20 +1,20 @@
 -- A block in braces: what was read behind the brace, where nothing is lent and where the groups are stored.
 -- Assumes nothing.
-use Prim.Native.Nat.{ℕ, _+_, _-_, _*_, _≤_}
+use Prim.Native.Nat.{ℕ, _+_, _-_}
 use native.Mathlib.Omega.{arith}
-use mathlib.Core.Path.{_≡_, refl, ap, sym, _∙_}
+use mathlib.Core.Path.{_≡_, refl, _∙_}
 use mathlib.Core.Bool.{true}
 use lib.Dec.{eqb, eqb→eq}
 use mathlib.Core.List.{List, [], _∷_, _++_}
-use lib.ListN.{length, length-append}
+use lib.ListN.{length}
 use Rattle.lexer.specs.Tokens.{Tokens}
 use Rattle.characters.specs.Promise.{written}
 use Rattle.characters.proofs.Written.{length-written}
-use Rattle.tree.specs.Records.{Branch, Node, nodes, textsOf}
-use Rattle.notation.specs.Parser.{Answer, read, refused, Parser, andThen, _>>=_, expect, eat, until}
+use Rattle.tree.specs.Records.{Node, nodes, textsOf}
+use Rattle.notation.specs.Parser.{Answer, read, refused, andThen, _>>=_, expect}
 use Rattle.notation.specs.Declarations.{block}
 use Rattle.tokens.specs.Promise.{stream, LiesIn, Expects}
-use Rattle.parser.specs.Storing.{Lent, lent, Stores, flat}
+use Rattle.parser.specs.Storing.{lent, Stores}
 use Rattle.parser.specs.Steps.{Onward, Lays, betweenBy}
 use Rattle.tokens.specs.declared.Current.{Current}
 use Rattle.tokens.specs.declared.Arrived.{Arrived}
@@ -24,14 +24,9 @@ use Rattle.parser.specs.declared.props.Listed.the-variants.{Done, Refused}
 use Rattle.parser.proofs.Onward.{expect-onward, onward-then}
 use Rattle.parser.proofs.Lists.{lays-between}
 use Rattle.parser.proofs.Took.{expect-at}
-use Rattle.reader.specs.Groups.{allOf, groupsOf, Gathers, GathersTo}
-use Rattle.reader.specs.Blocks.{MemberOf, memberOf, membersOf, commaOf, kindOf, branchesOf, kindsOf, Measured}
+use Rattle.reader.specs.Groups.{groupsOf, GathersTo}
+use Rattle.reader.specs.Blocks.{MemberOf, memberOf, membersOf, commaOf, kindOf, branchesOf, kindsOf}
 use Rattle.reader.specs.declared.blocks.Block.{Block}
-use Rattle.reader.proofs.GroupSizes.{number, nodes-of, bytes-of, in-one, kinds-nonzero}
-use Rattle.reader.proofs.Grouping.{Once, weighs}
-
-pub block-once : (b : Block) → Once (kindOf b) (branchesOf b) (kindsOf b)
-block-once b = record { single = in-one b; positive = kinds-nonzero b }
 
 -- ------------------------------------------------------------------ nothing is lent
 
@@ -41,9 +36,6 @@ is-zero n e = eqb→eq n 0 (rw e tt)
 pub front-none : (e r : List ℕ) → length e ≡ 0 → e ++ r ≡ r
 front-none [] r h = refl
 front-none (x ∷ e) r h = absurd (omega arith)
-
-pub rest-none : (e r : List ℕ) → length (e ++ r) ≡ 0 → length r ≡ 0
-rest-none e r h = let a = length-append e r in omega arith
 
 pub both-none : (v w : List ℕ) → length v ≡ 0 → length w ≡ 0 → v ≡ w
 both-none [] [] h k = refl

@@ -1,13 +1,13 @@
 -- Declarations that hold a block: what their definitions give, and what is then stored.
 -- Assumes nothing.
-use Prim.Native.Nat.{ℕ, suc, _+_, _≤_, _<_, _^_}
+use Prim.Native.Nat.{ℕ, suc, _+_, _≤_, _<_, _^_, _*_}
 use native.Mathlib.Omega.{arith}
 use mathlib.Core.Path.{_≡_, refl, sym, ap, _∙_}
 use mathlib.Core.Bool.{Bool, true, false, not}
 use mathlib.Core.List.{List, [], _∷_, _++_, append-assoc, append-nil}
 use borrow.Author.Tests.{eq-eqb, ne-eqb}
 use lib.Dec.{eqb}
-use lib.ListN.{length}
+use lib.ListN.{length, getD}
 use Rattle.basics.specs.Basics.{letters, every, isEmpty, picked, firstOf, concat}
 use Rattle.error.specs.Causes.{unexpectedToken, secondSkip}
 use Rattle.error.specs.declared.Cause.{Cause}
@@ -17,7 +17,7 @@ use Rattle.characters.specs.Places.{cut}
 use Rattle.lexer.specs.Tokens.{Tokens}
 use Rattle.lexer.specs.Promise.{partOf, isPlain}
 use Rattle.lexer.specs.Escapes.{decodeString}
-use Rattle.tree.specs.Records.{Branch, count, nodes}
+use Rattle.tree.specs.Records.{Branch, count, nodes, width}
 use Rattle.tree.specs.Stored.{declarationBranch, expressionBranch, sourceBranch, plain, named, full, specializeValue}
 use Rattle.tree.specs.Syntax.{Identifier, TokenDeclaration, LocalTokenDeclaration, Declaration, Expression, SpecializeKind, startOf}
 use Rattle.notation.specs.Parser.{Answer, read, refused, Parser, andThen, _>>=_, pure, refuse, choose, here, refuseHere, kind, next, eatName, must, expect, expectName, parseIdentifier}
@@ -46,8 +46,9 @@ use Rattle.parser.proofs.Took.{expect-at, expect-not}
 use Rattle.declarations.specs.Sources.{GotSource}
 use Rattle.declarations.proofs.SourceLaws.{source-few}
 use Rattle.declarations.proofs.RuleReads.{levels-are}
-use Rattle.reader.specs.Groups.{allOf, groupsOf, Gathers, GathersTo}
-use Rattle.reader.specs.Blocks.{MemberOf, memberOf, commaOf, kindsOf, kindOf, branchesOf, membersOf, Roomy}
+use Rattle.reader.specs.Groups.{groupsOf, Gathers}
+use Rattle.reader.specs.Places.{placeIn, groupAt, Blank}
+use Rattle.reader.specs.Blocks.{MemberOf, memberOf, commaOf, kindsOf, kindOf, branchesOf, membersOf, placeOf, blockCount, Spreads, SpreadsTo, Roomy}
 use Rattle.reader.specs.Directives.{past, localAt, tokensBranch, localBranch, SetOf, externalSet, setNodes, skips, HoldsTop, Scoping, Scopes, SeenIs, Declares, DeclaresTo}
 use Rattle.reader.specs.declared.blocks.Block.{Block}
 use Rattle.reader.specs.declared.directives.Seen.{Seen}
@@ -57,7 +58,6 @@ use Rattle.reader.specs.declared.blocks.Block.the-variants.{Tokens as To
 use Rattle.reader.proofs.RoomyLaws.{roomy-step, roomy-on}
 use Rattle.reader.proofs.TopLaws.{parses-as, past-not, past-at, past-onward}
 use Rattle.reader.proofs.MemberLaws.{flat-one}
-use Rattle.reader.proofs.Gathered.{gathered, gathered-not}
 use Rattle.reader.proofs.GroupPicks.{tokens-grouped, block-one-fallback, local-grouped, external-grouped, specializer-grouped, skip-grouped}
 
 -- ------------------------------------------------------------------ blocks
@@ -363,15 +363,19 @@ specializer-parsed p k s t {u} e g ws ts (P.Refused c z) f =
 
 -- ------------------------------------------------------------------ top rules of a scoped skip
 
-tops-count : (ms : List (SkipMember ℕ)) → length (allOf (kindOf Skip) (branchesOf Skip) 2 ms) ≡ length (picked skipTopRule ms)
-unfolding allOf picked
-tops-count [] = refl
-tops-count (SkipMember.topRule x ∷ ms) = ap suc (tops-count ms)
-tops-count (SkipMember.rule x ∷ ms) = tops-count ms
+-- their group is the first
+tops-group : (ms : List (SkipMember ℕ)) → length (groupAt (placeOf Skip) (branchesOf Skip) 0 ms) ≡ length (picked skipTopRule ms)
+unfolding groupAt picked placeIn
+tops-group [] = refl
+tops-group (SkipMember.topRule x ∷ ms) = ap suc (tops-group ms)
+tops-group (SkipMember.rule x ∷ ms) = tops-group ms
 
-some-count : {A : Type 0} (xs : List A) {n : ℕ} → length xs ≡ n → not (isEmpty xs) ≡ not (eqb n 0)
-some-count [] e = rw (← e)
-some-count (x ∷ xs) {n} e = rw (ne-eqb n 0 (λ z. omega arith))
+-- there is none exactly if their group has no size
+some-size : {A : Type 0} (xs : List A) (bs : List Branch) (n : ℕ) → length bs ≡ length xs → n ≡ width * length (flat nodes bs) → not (isEmpty xs) ≡ not (eqb n 0)
+unfolding flat
+some-size [] [] n e f = rw (eq-eqb n 0 (omega arith))
+some-size [] (b ∷ bs) n e f = absurd (omega arith)
+some-size (x ∷ xs) bs n e f = let g = flat-length (λ (x : Branch). x) bs in rw (ne-eqb n 0 (λ z. omega arith))
 
 no-read : {A : Type 0} {c p : ℕ} {x : A} {us : Tokens ℕ} → refused c p ≡ read x us → ⊥
 no-read e = let z : _≡_ {A = ℕ} 0 1 = cc in omega arith
@@ -401,17 +405,18 @@ module _ (s : List ℕ) (t : Current) where
     pub unopened-top : {c : Cause} {p : ℕ} → r ≡ Refused c p → HoldsTop s t false
     unopened-top q = unread (skips-halt (stream s t) (expect-not s "{" t r h q))
 
-    module _ {u : Current} (q : r ≡ At u) (i : ℕ) (a : Lent) (ws ts : List ℕ) (f : Listed)
-        (g : GathersTo (membersOf Skip (stream s u)) (allOf (kindOf Skip) (branchesOf Skip) 2) s u i a ws ts f) where
+    module _ {u : Current} (q : r ≡ At u) (ps qs ps₁ qs₁ ws ts vs us : List ℕ) (f : Listed) (g : SpreadsTo Skip s u ps qs ps₁ qs₁ ws ts vs us f) where
       pub unlisted-top : {c : Cause} {p : ℕ} → f ≡ L.Refused c p → HoldsTop s t false
-      unlisted-top z = unread (skips-at (stream s t) (expect-at s "{" t r h q) ∙ gathered-not _ _ s u i a ws ts f g z)
+      unlisted-top z = unread (skips-at (stream s t) (expect-at s "{" t r h q) ∙ (rw z at g))
 
-      pub listed-top : {v : Current} {n x count : ℕ} → f ≡ L.Done v n x count → HoldsTop s t (not (eqb count 0))
-      listed-top z =
-          let k = gathered _ _ s u i a ws ts f g z in
-          λ ms us e. some-count (picked skipTopRule ms) (
-          ap (λ ns. length (picked skipTopRule ns)) (same-read (sym e ∙ skips-at (stream s t) (expect-at s "{" t r h q) ∙ k .gives)) ∙ sym (tops-count (k .members)) ∙ k .counted
-          )
+      pub listed-top : Blank blockCount ps → {v : Current} {n x count : ℕ} → f ≡ L.Done v n x count → HoldsTop s t (not (eqb (getD ps₁ 0 0) 0))
+      listed-top none {v} {n} {x} {count} z =
+          let k : Spreads Skip s u ps qs ps₁ qs₁ ws ts vs us v n x count = rw z at g in
+          let on = k .fills .words-on 0 (omega arith) in
+          let begin = none .none 0 in
+          λ ms ls e.
+          let same : k .gathers .members ≡ ms = same-read (sym (skips-at (stream s t) (expect-at s "{" t r h q) ∙ k .gathers .gives) ∙ e) in
+          some-size (picked skipTopRule ms) (groupAt (placeOf Skip) (branchesOf Skip) 0 (k .gathers .members)) (getD ps₁ 0 0) (tops-group (k .gathers .members) ∙ ap (λ ns. length (picked skipTopRule ns)) same) (omega arith)
 
 -- ------------------------------------------------------------------ scoped skips
 

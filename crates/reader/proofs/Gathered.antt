@@ -6,7 +6,8 @@ use mathlib.Core.List.{List}
 use Rattle.error.specs.declared.Cause.{Cause}
 use Rattle.error.specs.Promise.{causeNumber}
 use Rattle.tree.specs.Records.{Branch}
-use Rattle.notation.specs.Parser.{Answer, refused}
+use Rattle.lexer.specs.Tokens.{Tokens}
+use Rattle.notation.specs.Parser.{Answer, read, refused}
 use Rattle.parser.specs.Storing.{Lent, lent}
 use Rattle.tokens.specs.declared.Current.{Current}
 use Rattle.parser.specs.declared.props.Listed.{Listed}
@@ -19,3 +20,7 @@ module _ {M : Type 0} (D : Answer ℕ (List M)) (f : List M → List Branch) (s 
 
   pub gathered-not : {c : Cause} {p : ℕ} → r ≡ Refused c p → D ≡ refused (causeNumber c) p
   gathered-not q = rw q at h
+
+-- one answer has one value
+pub together : {M : Type 0} {D : Answer ℕ (List M)} {xs ys : List M} {vs us : Tokens ℕ} → D ≡ read xs vs → D ≡ read ys us → xs ≡ ys
+together p q = cc

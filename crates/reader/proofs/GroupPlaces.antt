@@ -35,8 +35,12 @@ module _ {M : Type 0} (kind : M → ℕ) (branches : M → List Branch) (ks : Li
   group-is i l (m ∷ ms) = rw (place-test ks distinct (kind m) i l, ← wants-is (getD ks i 0) (kind m) (nonzero-at ks positive i l), group-is i l ms)
 
   -- the first groups and one more
-  pub groups-on : (i : ℕ) → i < length ks → (ms : List M) → groupsOf kind branches (take (suc i) ks) ms ≡ groupsOf kind branches (take i ks) ms ++ groupAt (λ m. placeIn ks (kind m)) branches i ms
+  groups-on : (i : ℕ) → i < length ks → (ms : List M) → groupsOf kind branches (take (suc i) ks) ms ≡ groupsOf kind branches (take i ks) ms ++ groupAt (λ m. placeIn ks (kind m)) branches i ms
   groups-on i l ms = let e : suc i ≡ i + 1 = omega arith in groups-next kind branches ks i ms e l ∙ rw (← group-is i l ms)
+
+  pub nodes-on : (i : ℕ) → i < length ks → (ms : List M)
+      → flat nodes (groupsOf kind branches (take (suc i) ks) ms) ≡ flat nodes (groupsOf kind branches (take i ks) ms) ++ flat nodes (groupAt (λ m. placeIn ks (kind m)) branches i ms)
+  nodes-on i l ms = ap (flat nodes) (groups-on i l ms) ∙ flat-append nodes (groupsOf kind branches (take i ks) ms) (groupAt (λ m. placeIn ks (kind m)) branches i ms)
 
 -- ------------------------------------------------------------------ places
 
@@ -100,16 +104,21 @@ module _ (c : Coding) where
   pub size-none : c .size [] ≡ 0
   size-none = let e = size-append [] [] in omega arith
 
-module _ (c : Coding) {M : Type 0} (kind : M → ℕ) (branches : M → List Branch) (ks : List ℕ) (distinct : Distinct ks) (positive : Nonzero ks) (ms : List M) where
-  -- the nodes of the first groups, and of one
-  abbrev first : ℕ → List Node
-  first i = flat nodes (groupsOf kind branches (take i ks) ms)
+-- the first groups together, and each of them
+module _ (c : Coding) (first group : ℕ → List Node) (count : ℕ) (none : first 0 ≡ []) (on : (i : ℕ) → i < count → first (suc i) ≡ first i ++ group i) where
+  -- the sizes of the groups, added up
+  pub sizes-are : (xs : List ℕ) → count ≤ length xs → ((g : ℕ) → g < count → getD xs g 0 ≡ c .size (group g)) → (i : ℕ) → i ≤ count → sum (take i xs) ≡ c .size (first i)
+  unfolding sum
+  sizes-are xs l are zero h = sym (ap (c .size) none ∙ size-none c)
+  sizes-are xs l are (suc i) h =
+      let a = sizes-are xs l are i (omega arith) in
+      let b = sum-suc xs i (omega arith) in
+      let d = are i (omega arith) in
+      let e = ap (c .size) (on i (omega arith)) ∙ size-append c (first i) (group i) in
+      omega arith
 
-  abbrev group : ℕ → List Node
-  group i = flat nodes (groupAt (λ m. placeIn ks (kind m)) branches i ms)
-
-  pub first-on : (i : ℕ) → i < length ks → first (suc i) ≡ first i ++ group i
-  first-on i l = ap (flat nodes) (groups-on kind branches ks distinct positive i l ms) ∙ flat-append nodes (groupsOf kind branches (take i ks) ms) (groupAt (λ m. placeIn ks (kind m)) branches i ms)
+  pub lined-are : (from : ℕ) (xs : List ℕ) {ys : List ℕ} → ys ≡ linedUp from xs → count ≤ length xs → ((g : ℕ) → g < count → getD xs g 0 ≡ c .size (group g)) → (g : ℕ) → g < count → getD ys g 0 ≡ from + c .size (first g)
+  lined-are from xs e l are g h = let a = ap (λ (z : List ℕ). getD z g 0) e ∙ lined-at from xs g (omega arith) in let b = sizes-are xs l are g (omega arith) in omega arith
 
   -- where the groups begin, from a place in the list and one in the bytes on
   module _ (at from : ℕ) (whole : List ℕ) where
@@ -119,37 +128,25 @@ module _ (c : Coding) {M : Type 0} (kind : M → ℕ) (branches : M → List Bra
     abbrev At : ℕ → Type 0
     At i = Holds whole (at + c .size (first i)) (c .code (from + length (textsOf (first i))) (group i))
 
-    front-split : (i : ℕ) → i < length ks → c .code from (first (suc i)) ≡ c .code from (first i) ++ c .code (from + length (textsOf (first i))) (group i)
-    front-split i l = ap (c .code from) (first-on i l) ∙ c .more from (first i) (group i)
+    front-split : (i : ℕ) → i < count → c .code from (first (suc i)) ≡ c .code from (first i) ++ c .code (from + length (textsOf (first i))) (group i)
+    front-split i l = ap (c .code from) (on i l) ∙ c .more from (first i) (group i)
 
     -- the fronts are held, and each group
-    pub front-less : (d i : ℕ) → i + d ≤ length ks → Front (i + d) → Front i
+    pub front-less : (d i : ℕ) → i + d ≤ count → Front (i + d) → Front i
     front-less zero i l h = let e : i + 0 ≡ i = omega arith in rw e at h
     front-less (suc d) i l h =
         let e : i + suc d ≡ suc (i + d) = omega arith in
         let f : Holds whole at (c .code from (first (i + d)) ++ c .code (from + length (textsOf (first (i + d)))) (group (i + d))) = rw (e, front-split (i + d) (omega arith)) at h in
         front-less d i (omega arith) (holds-first (c .code from (first (i + d))) _ f)
 
-    pub group-held : (i : ℕ) → i < length ks → Front (suc i) → At i
+    pub group-held : (i : ℕ) → i < count → Front (suc i) → At i
     group-held i l h =
         let f : Holds whole at (c .code from (first i) ++ c .code (from + length (textsOf (first i))) (group i)) = rw (front-split i l) at h in
         let g = holds-rest (c .code from (first i)) _ f in
         rw (c .sized from (first i)) at g
 
     -- and back
-    pub front-more : (i : ℕ) → i < length ks → Front i → At i → Front (suc i)
+    pub front-more : (i : ℕ) → i < count → Front i → At i → Front (suc i)
     front-more i l h k =
         let g : Holds whole (at + length (c .code from (first i))) (c .code (from + length (textsOf (first i))) (group i)) = rw (c .sized from (first i)) k in
         rw (front-split i l) (holds-both (c .code from (first i)) _ h g)
-
-  -- the sizes of the groups, added up
-  pub places-are : (xs : List ℕ) → length ks < length xs → ((g : ℕ) → g < length xs → getD xs g 0 ≡ c .size (group g)) → ((a b : List Node) → c .size (a ++ b) ≡ c .size a + c .size b) → c .size [] ≡ 0
-      → (i : ℕ) → i ≤ length ks → sum (take i xs) ≡ c .size (first i)
-  unfolding sum groupsOf flat
-  places-are xs l are add none zero h = sym none
-  places-are xs l are add none (suc i) h =
-      let a = places-are xs l are add none i (omega arith) in
-      let b = sum-suc xs i (omega arith) in
-      let d = are i (omega arith) in
-      let e = ap (c .size) (first-on i (omega arith)) ∙ add (first i) (group i) in
-      omega arith

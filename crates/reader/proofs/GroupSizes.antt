@@ -3,13 +3,12 @@
 use Prim.Native.Nat.{ℕ, zero, suc, _+_, _≤_, _<_}
 use native.Mathlib.Omega.{arith}
 use mathlib.Core.Path.{_≡_, refl, ap, sym, _∙_}
-use mathlib.Core.Bool.{Bool, true, false}
 use mathlib.Core.List.{List, [], _∷_, _++_, append-assoc, append-nil}
 use lib.ListN.{length, length-append, take, getD}
 use Rattle.tree.specs.Records.{Branch, Node, nodes, textsOf}
 use Rattle.tree.proofs.Encoded.{texts-append}
 use Rattle.parser.specs.Storing.{flat}
-use Rattle.parser.proofs.Lists.{flat-none, flat-more, flat-append}
+use Rattle.parser.proofs.Lists.{flat-none, flat-append}
 use Rattle.notation.specs.Members.{TokenMember, LocalMember, SkipMember, ExternalMember}
 use Rattle.reader.specs.Groups.{chosen, allOf, groupsOf}
 use Rattle.reader.specs.Blocks.{MemberOf, kindOf, branchesOf, kindsOf}
@@ -66,18 +65,6 @@ module _ {M : Type 0} (kind : M → ℕ) (branches : M → List Branch) where
   groups-next ks i {j} ms e h = let q : j ≡ suc i = omega arith in rw q (groups-suc ks i ms h)
 
   module _ (w : Weight) where
-    -- they are no heavier than all
-    pub groups-some : (ks : List ℕ) (i : ℕ) (ms : List M) → w .of (groupsOf kind branches (take i ks) ms) ≤ w .of (groupsOf kind branches ks ms)
-    unfolding groupsOf
-    groups-some [] zero ms = omega arith
-    groups-some [] (suc i) ms = omega arith
-    groups-some (k ∷ ks) zero ms = let a = w .none in omega arith
-    groups-some (k ∷ ks) (suc i) ms =
-        let a = w .more (allOf kind branches k ms) (groupsOf kind branches (take i ks) ms) in
-        let b = w .more (allOf kind branches k ms) (groupsOf kind branches ks ms) in
-        let c = groups-some ks i ms in
-        omega arith
-
     -- ------------------------------------------------------------------ all groups
 
     groups-none : (ks : List ℕ) → w .of (groupsOf kind branches ks []) ≡ 0
@@ -114,7 +101,7 @@ module _ {M : Type 0} (kind : M → ℕ) (branches : M → List Branch) where
 -- ------------------------------------------------------------------ blocks
 
 -- a member stands in one group of its block
-pub in-one : (b : Block) (m : MemberOf b) → groupsOf (kindOf b) (branchesOf b) (kindsOf b) (m ∷ []) ≡ branchesOf b m
+in-one : (b : Block) (m : MemberOf b) → groupsOf (kindOf b) (branchesOf b) (kindsOf b) (m ∷ []) ≡ branchesOf b m
 unfolding groupsOf allOf
 in-one Tokens (TokenMember.precedence x) = refl
 in-one Tokens (TokenMember.conflict x) = refl
@@ -130,23 +117,14 @@ in-one Specializer (ExternalMember.conflicts ns) = refl
 in-one Skip (SkipMember.topRule x) = refl
 in-one Skip (SkipMember.rule x) = refl
 
+-- group by group they weigh what all weigh
+pub block-weighs : (b : Block) (w : Weight) (ms : List (MemberOf b)) → w .of (groupsOf (kindOf b) (branchesOf b) (kindsOf b) ms) ≡ w .of (allOf (kindOf b) (branchesOf b) 0 ms)
+block-weighs b w ms = groups-weigh (kindOf b) (branchesOf b) w (kindsOf b) (in-one b) ms
+
 -- no kind is 0
 abbrev pub Nonzero : List ℕ → Type 0
 Nonzero [] = Unit {0}
 Nonzero (k ∷ ks) = (0 < k) × Nonzero ks
-
--- behind the last group there is none
-pub groups-end : (ks : List ℕ) → Nonzero ks → (i : ℕ) → getD ks i 0 ≡ 0 → take i ks ≡ ks
-groups-end [] h zero e = refl
-groups-end [] h (suc i) e = refl
-groups-end (k ∷ ks) h zero e = absurd (let z = h .0 in omega arith)
-groups-end (k ∷ ks) h (suc i) e = rw (groups-end ks (h .1) i e)
-
--- before it there is one
-pub groups-before : (ks : List ℕ) (i : ℕ) → 0 < getD ks i 0 → i < length ks
-groups-before [] i h = absurd (omega arith)
-groups-before (k ∷ ks) zero h = omega arith
-groups-before (k ∷ ks) (suc i) h = let z = groups-before ks i h in omega arith
 
 pub kinds-nonzero : (b : Block) → Nonzero (kindsOf b)
 kinds-nonzero Tokens = (omega arith, (omega arith, (omega arith, (omega arith, tt))))

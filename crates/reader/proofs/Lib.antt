@@ -7,7 +7,6 @@ pub mod GroupSizes
 pub mod Gathered
 pub mod DirectiveLaws
 pub mod Membering
-pub mod Grouping
 pub mod BlockGathered
 pub mod GrammarGroups
 pub mod AheadLaws

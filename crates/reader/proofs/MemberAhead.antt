@@ -157,7 +157,7 @@ in-by B.ExternalTokens free at string = if-both (In B.ExternalTokens) (says "con
 in-by B.Specializer free at string = omega arith
 in-by B.Skip free at string = if-both (In B.Skip) (says "top" at) 2 3 (omega arith) (omega arith)
 
-pub ahead-in : (b : Block) (free : Bool) (ts : Tokens ℕ) → placeIn (kindsOf b) (memberAhead b free ts) < blockCount
+ahead-in : (b : Block) (free : Bool) (ts : Tokens ℕ) → placeIn (kindsOf b) (memberAhead b free ts) < blockCount
 unfolding memberAhead
 ahead-in b free ts = in-by b free (atIn (tokenOf ts)) (stringIn (tokenOf ts))
 

@@ -1,13 +1,12 @@
 -- Members of a block put together from what was read of them.
 -- Assumes nothing.
-use Prim.Native.Nat.{ℕ, zero, suc}
+use Prim.Native.Nat.{ℕ}
 use Prim.Native.String.{String as Quoted}
 use native.Mathlib.Omega.{arith}
 use mathlib.Core.Path.{_≡_, refl, sym, _∙_}
 use mathlib.Core.Bool.{Bool, true, false}
 use mathlib.Core.List.{List, [], _∷_, _++_, append-nil}
-use lib.ListN.{length, getD}
-use borrow.Author.Tests.{eq-eqb, ne-eqb}
+use lib.ListN.{length}
 use Rattle.basics.specs.Basics.{letters, isEmpty, picked}
 use Rattle.error.specs.declared.Cause.{Cause}
 use Rattle.error.specs.Promise.{causeNumber}
@@ -32,8 +31,7 @@ use Rattle.parser.specs.declared.props.Parsed.{Parsed}
 use Rattle.parser.specs.declared.props.Parsed.the-variants as P
 use Rattle.tokens.proofs.Stream.{at-of, string-of}
 use Rattle.parser.proofs.Onward.{onward-then, onward-least}
-use Rattle.parser.proofs.Lists.{flat-none, flat-more, lays-none, lays-between}
-use Rattle.reader.specs.Groups.{wants}
+use Rattle.parser.proofs.Lists.{flat-none, flat-more, lays-between}
 use Rattle.reader.specs.Blocks.{MemberOf, memberOf, kindOf, branchesOf, nameBranches, Free, oneOf, Joins, JoinsTo}
 use Rattle.reader.specs.declared.blocks.Block.{Block}
 use Rattle.reader.specs.declared.blocks.Block.the-variants as B
@@ -223,50 +221,7 @@ some-before B.ExternalTokens free = record { members = []; is = tt }
 some-before B.Specializer free = record { members = []; is = tt }
 some-before B.Skip free = record { members = []; is = tt }
 
-pub wants-same : (k : ℕ) → wants k k ≡ true
-wants-same zero = refl
-wants-same (suc n) = eq-eqb (suc n) (suc n) refl
-
-pub wants-other : (w k : ℕ) → (w ≡ 0 → ⊥) → (k ≡ w → ⊥) → wants w k ≡ false
-wants-other zero k h i = absurd (h refl)
-wants-other (suc n) k h i = ne-eqb k (suc n) i
-
 module _ (b : Block) (free : Bool) (s : List ℕ) (t : Current) where
-  -- a member that is read twice is the same member
-  same-member : {a c d e : Lent} {u v : Current} {i j k l : ℕ} (f : Joins b 0 free s t a u c i k) (g : Joins b 0 free s t d v e j l) → f .value ≡ g .value
-  same-member f g = let h = some-before b free in let p = f .gives (h .members) (h .is) in let q = g .gives (h .members) (h .is) in cc
-
-  module _ (want : ℕ) where
-    -- where all are wanted
-    pub joined-all : (a : Lent) (ws ts : List ℕ) (j : Joined) → want ≡ 0 → JoinsTo b 0 free s t a ws ts j → JoinsTo b want free s t a ws ts j
-    joined-all a ws ts j e h = rw e h
-
-    -- a kind that is wanted, by a first reading
-    pub joined-wanted : (a : Lent) (ws ts : List ℕ) (j : Joined) {d e : Lent} {u : Current} {i k : ℕ} → Joins b 0 free s t d u e i k → k ≡ want → JoinsTo b 0 free s t a ws ts j → JoinsTo b want free s t a ws ts j
-    joined-wanted a ws ts (Done v n x count l) f q g =
-        let z : wants want (kindOf b (g .value)) ≡ true = rw (← same-member f g, f .kinds, q) (wants-same want) in
-        record { value = g .value; gives = g .gives; onward = g .onward; kinds = g .kinds; counted = rw z (g .counted); lays = rw z (g .lays) }
-    joined-wanted a ws ts (Refused c p) f q g = g
-
-    -- in words and bytes that are the same
-    pub joined-same : (n x : ℕ) (ws ts vs us qs bs : List ℕ) (j : Joined) → vs ≡ ws → us ≡ ts → JoinsTo b want free s t (lent n vs x us) qs bs j → JoinsTo b want free s t (lent n ws x ts) qs bs j
-    joined-same n x ws ts vs us qs bs j e f h = rw (e, f) at h
-
-    -- one that is not
-    pub joined-passed : {d e : Lent} {u : Current} {i k n x : ℕ} {ws ts vs us : List ℕ} → Joins b 0 free s t d u e i k → (want ≡ 0 → ⊥) → (k ≡ want → ⊥) → vs ≡ ws → us ≡ ts
-        → Joins b want free s t (lent n ws x ts) u (lent n vs x us) 0 k
-    joined-passed {n = n} {x} {ws} {ts} f h q v w =
-        let z : wants want (kindOf b (f .value)) ≡ false = rw (f .kinds) (wants-other want _ h q) in
-        let o = f .onward .ahead in
-        record {
-          value = f .value;
-          gives = f .gives;
-          onward = f .onward;
-          kinds = f .kinds;
-          counted = rw z;
-          lays = rw (z, flat-none nodes, v, w) (lays-between 0 (lays-none t 0 (lent n ws x ts)) (omega arith) (omega arith) (omega arith));
-        }
-
   -- by its variant
   module _ (want : ℕ) (a : Lent) (ws ts : List ℕ) (j : Joined) (h : JoinsTo b want free s t a ws ts j) where
     pub joined-at : {u : Current} {n x count k : ℕ} → j ≡ Done u n x count k → Joins b want free s t a u (lent n ws x ts) count k
@@ -274,28 +229,3 @@ module _ (b : Block) (free : Bool) (s : List ℕ) (t : Current) where
 
     pub joined-not : {c : Cause} {p : ℕ} → j ≡ Refused c p → (before : List (MemberOf b)) → Free b before free → memberOf b before (stream s t) ≡ refused (causeNumber c) p
     joined-not q = rw q at h
-
--- ------------------------------------------------------------------ behind the last group
-
--- there is none at a place that is none of the first four, three, two, one
-pub behind-four : (a b c d i : ℕ) → (i ≡ 0 → ⊥) → (i ≡ 1 → ⊥) → (i ≡ 2 → ⊥) → (i ≡ 3 → ⊥) → 0 ≡ getD (a ∷ b ∷ c ∷ d ∷ []) i 0
-behind-four a b c d zero h i j k = absurd (h refl)
-behind-four a b c d (suc zero) h i j k = absurd (i refl)
-behind-four a b c d (suc (suc zero)) h i j k = absurd (j refl)
-behind-four a b c d (suc (suc (suc zero))) h i j k = absurd (k refl)
-behind-four a b c d (suc (suc (suc (suc n)))) h i j k = refl
-
-pub behind-three : (a b c i : ℕ) → (i ≡ 0 → ⊥) → (i ≡ 1 → ⊥) → (i ≡ 2 → ⊥) → 0 ≡ getD (a ∷ b ∷ c ∷ []) i 0
-behind-three a b c zero h i j = absurd (h refl)
-behind-three a b c (suc zero) h i j = absurd (i refl)
-behind-three a b c (suc (suc zero)) h i j = absurd (j refl)
-behind-three a b c (suc (suc (suc n))) h i j = refl
-
-pub behind-two : (a b i : ℕ) → (i ≡ 0 → ⊥) → (i ≡ 1 → ⊥) → 0 ≡ getD (a ∷ b ∷ []) i 0
-behind-two a b zero h i = absurd (h refl)
-behind-two a b (suc zero) h i = absurd (i refl)
-behind-two a b (suc (suc n)) h i = refl
-
-pub behind-one : (a i : ℕ) → (i ≡ 0 → ⊥) → 0 ≡ getD (a ∷ []) i 0
-behind-one a zero h = absurd (h refl)
-behind-one a (suc n) h = refl

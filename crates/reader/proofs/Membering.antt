@@ -1,19 +1,18 @@
 -- A pass over the members of a block: those that are wanted are stored as they are read.
 -- Assumes nothing.
-use Prim.Native.Nat.{ℕ, _+_, _≤_, _<_}
+use Prim.Native.Nat.{ℕ, _+_, _≤_}
 use Prim.Native.Char.{code}
 use native.Mathlib.Omega.{arith}
-use mathlib.Core.Path.{_≡_, refl, ap, sym, _∙_}
-use mathlib.Core.Bool.{Bool, true, false, _&&_, not}
+use mathlib.Core.Path.{_≡_, refl, ap, _∙_}
+use mathlib.Core.Bool.{Bool, true, _&&_, not}
 use mathlib.Core.List.{List, [], _∷_, _++_}
-use mathlib.Core.Option.{Option, none, some}
 use lib.Dec.{eqb}
 use lib.ListN.{length, length-append}
-use Rattle.basics.specs.Basics.{isEmpty, picked, orNot}
+use Rattle.basics.specs.Basics.{isEmpty, picked}
 use Rattle.error.specs.declared.Cause.{Cause}
 use Rattle.error.specs.Promise.{causeNumber}
 use Rattle.tree.specs.Records.{Branch, nodes}
-use Rattle.notation.specs.Parser.{read, refused, andThen, pure, loop, untilStep, eat}
+use Rattle.notation.specs.Parser.{read, refused, andThen, pure, untilStep, eat}
 use Rattle.notation.specs.Members.{LocalMember, localFallback}
 use Rattle.tokens.specs.Promise.{stream, LiesIn}
 use Rattle.parser.specs.Storing.{Lent, lent, flat}
@@ -119,10 +118,6 @@ module _ {b : Block} {w : ℕ} {s : List ℕ} {t₀ : Current} {a : Lent} {t : C
             still = free-snoc b (l .items) (j .value) free (j .kinds) (m .still);
             few = let f = m .few in let g = member-onward .ahead in omega arith;
           }
-
-      -- with the flag as the code has it
-      pub member-next : {f : Bool} → f ≡ free && not (eqb kind 13) → Membering b w s t₀ a v (lent i vs y us) (count + 1) (children + more) f
-      member-next z = rw z member-more
 
 -- numbers that stay small
 pub membering-small : {b : Block} {w : ℕ} {s : List ℕ} {t₀ t : Current} {a c : Lent} {count children : ℕ} {free : Bool} → Membering b w s t₀ a t c count children free → length s ≤ 0x200000

@@ -1,26 +1,23 @@
 -- A pass over all declarations: each is stored, as it is read, where its group goes on.
 -- Assumes nothing.
-use Prim.Native.Nat.{ℕ, _+_, _≤_, _<_}
+use Prim.Native.Nat.{ℕ, _+_, _≤_}
 use native.Mathlib.Omega.{arith}
 use mathlib.Core.Path.{_≡_, refl, ap, _∙_}
 use mathlib.Core.Bool.{Bool, true, false, _||_}
-use mathlib.Core.List.{List, [], _∷_, _++_}
+use mathlib.Core.List.{List, [], _∷_}
 use mathlib.Core.Option.{Option, none, some}
 use lib.Dec.{eqb}
-use native.Mathlib.Decide.{decLt}
-use Rattle.characters.specs.Promise.{written}
-use Rattle.characters.proofs.Written.{length-written}
-use lib.ListN.{length, length-append, getD, List·getD-eq-default}
+use lib.ListN.{length, length-append}
 use Rattle.basics.specs.Basics.{if_then_else_}
 use Rattle.lexer.specs.Tokens.{Tokens}
 use Rattle.lexer.specs.declared.Kind.{Kind}
-use Rattle.tree.specs.Records.{Branch, Node, nodes, textsOf}
+use Rattle.tree.specs.Records.{Node, nodes, textsOf}
 use Rattle.notation.specs.Parser.{read, refused, Parser, andThen, _>>=_, pure, choose, kind, kindOf, isEnd, separate, untilStep, nothing}
 use Rattle.notation.specs.Members.{Member}
 use Rattle.notation.specs.Declarations.{parseDeclaration}
 use Rattle.tokens.specs.Promise.{stream, LiesIn}
 use Rattle.parser.specs.Shapes.{IsToken}
-use Rattle.parser.specs.Storing.{lent, Stores, flat}
+use Rattle.parser.specs.Storing.{lent, flat}
 use Rattle.parser.specs.Steps.{placed}
 use Rattle.tokens.specs.declared.Current.{Current}
 use Rattle.tokens.specs.declared.Current.the-variants.{Token, End}
@@ -28,7 +25,7 @@ use Rattle.notation.proofs.Turns.{loop-end}
 use Rattle.parser.proofs.Onward.{placed-in}
 use Rattle.parser.proofs.Lists.{Listing, listing-start, listing-turn, listing-more, listing-refused}
 use Rattle.reader.specs.Groups.{chosen, allOf}
-use Rattle.reader.specs.Places.{groupAt, Fills, Begins}
+use Rattle.reader.specs.Places.{Fills, Begins}
 use Rattle.reader.specs.Directives.{memberKind, memberBranches, SeenIs}
 use Rattle.reader.specs.Whole.{members, storedKinds, memberPlace, groupCount, Places, NotedIs, recordsOf, noteOf, Passes}
 use Rattle.reader.specs.declared.whole.Noted.{Noted}

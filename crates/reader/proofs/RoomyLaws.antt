@@ -1,16 +1,13 @@
 -- From one place to the next where half of the room is left.
 -- Assumes nothing.
-use Prim.Native.Nat.{ℕ, _+_, _≤_}
+use Prim.Native.Nat.{ℕ}
 use native.Mathlib.Omega.{arith}
 use mathlib.Core.Path.{_≡_}
 use mathlib.Core.List.{List}
-use lib.ListN.{length}
 use Rattle.tree.specs.Records.{Node}
-use Rattle.tokens.specs.Promise.{LiesIn}
 use Rattle.parser.specs.Storing.{lent}
 use Rattle.parser.specs.Steps.{Onward, Lays, Ready}
 use Rattle.tokens.specs.declared.Current.{Current}
-use Rattle.parser.proofs.Onward.{placed-in}
 use Rattle.reader.specs.Blocks.{Roomy}
 
 pub roomy-as : {s : List ℕ} {t u : Current} {n x : ℕ} → t ≡ u → Roomy s t n x → Roomy s u n x
@@ -19,15 +16,6 @@ roomy-as e r = rw e at r
 module _ {s : List ℕ} {t : Current} {n x : ℕ} (r : Roomy s t n x) where
   pub roomy-ready : Ready s t n x
   roomy-ready = let a = r .room in let b = r .space in let c = r .small in record { lies = r .lies; small = omega arith; room = omega arith; space = omega arith }
-
-  -- from any token on, with up to as much room taken again
-  pub roomy-again : {u : Current} {m y : ℕ} → LiesIn s 0 u → m ≤ n + 0x10000000 → y ≤ x + 0x10000000 → Ready s u m y
-  roomy-again l h k =
-      let a = r .room in
-      let b = r .space in
-      let c = r .small in
-      let d = placed-in s t (r .lies) in
-      record { lies = l; small = omega arith; room = omega arith; space = omega arith }
 
   pub roomy-step : {u : Current} {i : ℕ} → Onward s t u i → Roomy s u n x
   roomy-step o =

@@ -1,20 +1,20 @@
 -- A pass over the members of a block: each is stored, as it is read, where its group goes on.
 -- Assumes nothing.
-use Prim.Native.Nat.{ℕ, _+_, _-_, _*_, _≤_, _<_}
+use Prim.Native.Nat.{ℕ, _+_, _-_, _≤_, _<_}
 use Prim.Native.Char.{code}
 use native.Mathlib.Omega.{arith}
-use mathlib.Core.Path.{_≡_, refl, ap, sym, _∙_}
-use mathlib.Core.Bool.{Bool, true, false, _&&_, not}
-use mathlib.Core.List.{List, [], _∷_, _++_}
+use mathlib.Core.Path.{_≡_, ap, sym, _∙_}
+use mathlib.Core.Bool.{Bool, true, _&&_, not}
+use mathlib.Core.List.{List, []}
 use lib.Dec.{eqb}
 use lib.ListN.{length, getD, set}
 use Rattle.error.specs.declared.Cause.{Cause}
 use Rattle.error.specs.Promise.{causeNumber}
-use Rattle.tree.specs.Records.{Node, nodes, textsOf}
+use Rattle.tree.specs.Records.{Node, textsOf}
 use Rattle.notation.specs.Parser.{refused}
 use Rattle.notation.specs.Members.{TokenMember, LocalMember, SkipMember, ExternalMember}
 use Rattle.tokens.specs.Promise.{stream, LiesIn}
-use Rattle.parser.specs.Storing.{lent, Stores, flat}
+use Rattle.parser.specs.Storing.{lent}
 use Rattle.parser.specs.Steps.{Onward, Ready, Opens}
 use Rattle.tokens.specs.declared.Current.{Current}
 use Rattle.parser.specs.declared.props.Comma.{Comma}
@@ -22,9 +22,8 @@ use Rattle.parser.specs.declared.props.Opened.{Opened}
 use Rattle.parser.specs.declared.props.Opened.the-variants as O
 use Rattle.parser.proofs.Onward.{placed-in}
 use Rattle.parser.proofs.Lists.{listing-start, listing-turn, listing-more}
-use Rattle.reader.specs.Groups.{chosen, allOf}
 use Rattle.reader.specs.Places.{placeIn, Fills, Begins}
-use Rattle.reader.specs.Blocks.{MemberOf, memberOf, membersOf, commaOf, kindOf, branchesOf, kindsOf, Free, Joins, placeOf, blockCount, Settles, SettlesTo, Spreads}
+use Rattle.reader.specs.Blocks.{MemberOf, memberOf, commaOf, kindOf, branchesOf, kindsOf, Free, Joins, placeOf, blockCount, Settles, SettlesTo, Spreads}
 use Rattle.reader.specs.Ahead.{memberAhead}
 use Rattle.reader.specs.declared.blocks.Block.{Block}
 use Rattle.reader.specs.declared.blocks.Block.the-variants.{Tokens, LocalTokens, ExternalTokens, Specializer, Skip}
@@ -32,7 +31,7 @@ use Rattle.reader.specs.declared.blocks.Joined.{Joined}
 use Rattle.reader.specs.declared.blocks.Joined.the-variants.{Done, Refused}
 use Rattle.reader.proofs.GroupSizes.{all-nodes}
 use Rattle.reader.proofs.MemberLaws.{some-before}
-use Rattle.reader.proofs.Membering.{Membering, membering-start, membering-small, members-closed, members-refused, member-refused, member-onward, member-more}
+use Rattle.reader.proofs.Membering.{Membering, membering-start, membering-small, members-closed, member-onward, member-more}
 use Rattle.reader.proofs.BlockGathered.{lays-alone, stores-again}
 use Rattle.reader.proofs.Filling.{fills-none, fills-more}
 use Rattle.reader.proofs.Begun.{begins-on}
@@ -79,7 +78,7 @@ module _ (b : Block) (free : Bool) (s : List ℕ) (t : Current) (ps qs ps₁ qs�
   settled-not q = rw q at h
 
 -- each member has one of the groups
-pub place-few : (b : Block) (m : MemberOf b) → placeOf b m < blockCount
+place-few : (b : Block) (m : MemberOf b) → placeOf b m < blockCount
 unfolding placeIn
 place-few Tokens (TokenMember.precedence x) = omega arith
 place-few Tokens (TokenMember.conflict x) = omega arith

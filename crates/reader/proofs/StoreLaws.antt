@@ -30,7 +30,7 @@ use Rattle.reader.specs.Directives.{memberKind, memberBranches}
 use Rattle.reader.specs.Whole.{lastNames, storedKinds, memberPlace, HasNames, Names, NamesTo, NamedIs, Passes, Known, Read, onto, groupCount}
 use Rattle.reader.specs.declared.whole.Noted.{Noted}
 use Rattle.reader.proofs.GroupSizes.{number, nodes-of, bytes-of, groups-weigh}
-use Rattle.reader.proofs.Grouping.{together}
+use Rattle.reader.proofs.Gathered.{together}
 use Rattle.reader.proofs.GrammarGroups.{top-one, grammarChildren, grammar-nodes}
 use Rattle.reader.proofs.TopPlaces.{stored-distinct}
 use Rattle.reader.proofs.Filling.{words-length, put-words, put-texts}

@@ -22,7 +22,7 @@ use Rattle.reader.specs.Whole.{storedKinds, memberPlace}
 use Rattle.reader.proofs.GroupSizes.{Nonzero}
 use Rattle.reader.proofs.TopPlaces.{stored-distinct}
 use Rattle.reader.proofs.Filling.{holds-first, holds-rest, holds-both, Put, written-holds, written-kept, written-behind, still-holds}
-use Rattle.reader.proofs.GroupPlaces.{Coding, first-on, front-less, group-held, front-more, lined-at, lined-length, sum-suc, places-are, size-append, size-none, sum-part}
+use Rattle.reader.proofs.GroupPlaces.{Coding, nodes-on, front-less, group-held, front-more, lined-at, lined-length, sum-suc, size-append, size-none, sum-part, sizes-are}
 
 pub stored-positive : Nonzero storedKinds
 stored-positive =
@@ -91,9 +91,12 @@ first-none : (ms : List (Member ℕ)) → firstOf ms 0 ≡ []
 unfolding flat groupsOf
 first-none ms = refl
 
+first-on : (ms : List (Member ℕ)) (i : ℕ) → i < 12 → firstOf ms (suc i) ≡ firstOf ms i ++ groupOf ms i
+first-on ms i l = nodes-on memberKind memberBranches storedKinds stored-distinct stored-positive i l ms
+
 module _ (c : Coding) (ms : List (Member ℕ)) (xs : List ℕ) (all : length xs ≡ 13) (are : (g : ℕ) → g < 13 → getD xs g 0 ≡ c .size (groupOf ms g)) where
   sums-are : (i : ℕ) → i ≤ 12 → sum (take i xs) ≡ c .size (firstOf ms i)
-  sums-are i h = places-are c memberKind memberBranches storedKinds stored-distinct stored-positive ms xs (omega arith) (λ g b. are g (omega arith)) (size-append c) (size-none c) i h
+  sums-are i h = sizes-are c (firstOf ms) (groupOf ms) 12 (first-none ms) (first-on ms) xs (omega arith) (λ g b. are g (omega arith)) i h
 
   -- all of them together
   pub sum-is : sum xs ≡ c .size (firstOf ms 12)
@@ -129,7 +132,7 @@ module _ (c : Coding) (ms : List (Member ℕ)) (xs : List ℕ) (all : length xs 
       pub place-behind : (names own : List Node) → getD (set ys 11 k) 12 0 ≤ c .size (firstOf ms 11 ++ names ++ groupOf ms 11 ++ own)
       place-behind names own =
           let a = place-twelve in
-          let b = ap (c .size) (first-on c memberKind memberBranches storedKinds stored-distinct stored-positive ms 11 (omega arith)) ∙ size-append c (firstOf ms 11) (groupOf ms 11) in
+          let b = ap (c .size) (first-on ms 11 (omega arith)) ∙ size-append c (firstOf ms 11) (groupOf ms 11) in
           let d = size-append c (firstOf ms 11 ++ names ++ groupOf ms 11) own in
           let f = size-append c (firstOf ms 11 ++ names) (groupOf ms 11) in
           let g = size-append c (firstOf ms 11) names in
@@ -207,8 +210,8 @@ module _ (c : Coding) (ms : List (Member ℕ)) (names own : List Node) where
 
           go : Dec (g < 11) → Dec (g < 12) → Holds whole (getD ps g 0) (c .code (getD qs g 0) (groupOf ms g))
           go (yes a) b =
-              let f = front-less c memberKind memberBranches storedKinds stored-distinct stored-positive ms 0 0 whole (10 - g) (suc g) (omega arith) (eleven-is (suc g + (10 - g)) (omega arith)) in
-              let t = group-held c memberKind memberBranches storedKinds stored-distinct stored-positive ms 0 0 whole g (omega arith) f in
+              let f = front-less c (firstOf ms) (groupOf ms) 12 (first-none ms) (first-on ms) 0 0 whole (10 - g) (suc g) (omega arith) (eleven-is (suc g + (10 - g)) (omega arith)) in
+              let t = group-held c (firstOf ms) (groupOf ms) 12 (first-none ms) (first-on ms) 0 0 whole g (omega arith) f in
               rw (place-is g a, from-place g a) t
           go (no a) (yes b) = let e : g ≡ 11 = omega arith in rw (e, eleven, eleven-from) (p .last)
           go (no a) (no b) =
@@ -259,7 +262,7 @@ module _ (c : Coding) (ms : List (Member ℕ)) (names own : List Node) where
         fronts zero h = holds-nothing c (first-none ms) (omega arith)
         fronts (suc j) h =
             let t : Holds vs₃ (0 + c .size (firstOf ms j)) (c .code (0 + length (textsOf (firstOf ms j))) (groupOf ms j)) = rw (place-is j (omega arith), from-place j (omega arith)) at (filled-on j (omega arith)) in
-            front-more c memberKind memberBranches storedKinds stored-distinct stored-positive ms 0 0 vs₃ j (omega arith) (fronts j (omega arith)) t
+            front-more c (firstOf ms) (groupOf ms) 12 (first-none ms) (first-on ms) 0 0 vs₃ j (omega arith) (fronts j (omega arith)) t
 
         named-on : Holds vs₃ m (c .code y names)
         named-on =

@@ -23,7 +23,7 @@ use Rattle.parser.specs.declared.props.Parsed.{Parsed}
 use Rattle.parser.specs.declared.props.Parsed.the-variants as P
 use Rattle.parser.specs.declared.props.Listed.{Listed}
 use Rattle.parser.specs.declared.props.Listed.the-variants as L
-use Rattle.reader.specs.Groups.{chosen, allOf, Gathers, MeasuredAs}
+use Rattle.reader.specs.Groups.{chosen, allOf, Gathers}
 use Rattle.reader.specs.Places.{placeIn, Fills}
 use Rattle.reader.specs.declared.blocks.Block.{Block}
 use Rattle.reader.specs.declared.blocks.Block.the-variants.{Tokens, LocalTokens, ExternalTokens, Specializer, Skip}
@@ -127,10 +127,6 @@ pub record Joins (b : Block) (want : ℕ) (free : Bool) (s : List ℕ) (t : Curr
 abbrev pub JoinsTo : (b : Block) → (want : ℕ) → (free : Bool) → List ℕ → Current → Lent → (words texts : List ℕ) → Joined → Type 0
 JoinsTo b w f s t a ws ts (Done u n x count kind) = Joins b w f s t a u (lent n ws x ts) count kind
 JoinsTo b w f s t a ws ts (Refused c p) = (before : List (MemberOf b)) → Free b before f → memberOf b before (stream s t) ≡ refused (causeNumber c) p
-
--- the members of a block are measured
-abbrev pub Measured : (b : Block) → List ℕ → (t last : Current) → Type 0
-Measured b s t last = MeasuredAs (membersOf b (stream s t)) (kindOf b) (branchesOf b) 1 s t last
 
 -- where a function may begin that reads a part of the text more than once: the text is short, and half of the room is left
 pub record Roomy (s : List ℕ) (t : Current) (n x : ℕ) : Type 0 where

@@ -17,7 +17,7 @@ ghost use Rattle.tokens.specs.Promise.{stream, LiesIn};
 ghost use Rattle.parser.specs.Storing.{lent};
 ghost use Rattle.parser.specs.Steps.{Ready, betweenBy};
 ghost use Rattle.notation.specs.Declarations.{block as blockD};
-ghost use Rattle.reader.specs.Groups.{allOf, groupsOf, GathersTo};
+ghost use Rattle.reader.specs.Groups.{groupsOf, GathersTo};
 ghost use Rattle.reader.specs.Places.{placeIn, sum, linedUp, Blank, Begins};
 ghost use Rattle.reader.specs.Blocks.{kindOf, branchesOf, kindsOf, commaOf, memberOf, membersOf, JoinsTo, blockCount, SettlesTo, SpreadsTo, Roomy, oneOf};
 ghost use Rattle.reader.specs.Ahead.{memberAhead};
@@ -190,45 +190,6 @@ fn member(
     }
 }
 
-// A member, stored if its kind is wanted; 0 wants all.
-fn member_wanted(
-    source: &[u8],
-    block: Block,
-    want: u32,
-    token: Current,
-    free: bool,
-    records: &mut [u32],
-    n: usize,
-    texts: &mut [u8],
-    x: usize,
-) -> Joined
-    requires { ⌜ Ready (now source) token n x ⌝ }
-    ensures { λ r. ⌜ JoinsTo block want free (now (source .entry)) token
-        (lent n (now (records .entry)) x (now (texts .entry))) (now (records .exit)) (now (texts .exit)) r ⌝ }
-{
-    if want == 0 {
-        return member(source, block, token, free, records, n, texts, x);
-    }
-    match member(
-        source,
-        block,
-        token,
-        free,
-        &mut records[..0],
-        n,
-        &mut texts[..0],
-        x,
-    ) {
-        Joined::Refused(cause, at) => Joined::Refused(cause, at),
-        Joined::Done(u, _, _, _, kind) => {
-            if kind == want {
-                return member(source, block, token, free, records, n, texts, x);
-            }
-            Joined::Done(u, n, x, 0, kind)
-        }
-    }
-}
-
 // What stands between two members.
 fn comma(block: Block) -> Comma
     ensures { λ r. ⌜ r ≡ commaOf block ⌝ }
@@ -239,62 +200,6 @@ fn comma(block: Block) -> Comma
         Block::ExternalTokens => Comma::May,
         Block::Specializer => Comma::May,
         Block::Skip => Comma::No,
-    }
-}
-
-// The members of a block up to its brace; those whose kind is wanted are stored.
-pub fn members_list(
-    source: &[u8],
-    block: Block,
-    want: u32,
-    token: Current,
-    records: &mut [u32],
-    n: usize,
-    texts: &mut [u8],
-    x: usize,
-) -> Listed
-    requires { ⌜ Ready (now source) token n x ⌝ }
-    ensures { λ r. ⌜ GathersTo (membersOf block (stream (now (source .entry)) token)) (allOf (kindOf block) (branchesOf block) want) (now (source .entry)) token 1
-        (lent n (now (records .entry)) x (now (texts .entry))) (now (records .exit)) (now (texts .exit)) r ⌝ }
-{
-    let mut t = token;
-    let mut m = n;
-    let mut y = x;
-    let mut count: usize = 0;
-    let mut children: usize = 0;
-    let mut free = true;
-    loop {
-        match props::opening(source, t, 0x7D, comma(block), count) {
-            Opened::Closed(u) => {
-                return Listed::Done(u, m, y, children);
-            }
-            Opened::Refused(cause, at) => {
-                return Listed::Refused(cause, at);
-            }
-            Opened::Item(u) => match member_wanted(
-                source,
-                block,
-                want,
-                u,
-                free,
-                records,
-                m,
-                texts,
-                y,
-            ) {
-                Joined::Refused(cause, at) => {
-                    return Listed::Refused(cause, at);
-                }
-                Joined::Done(v, k, z, more, kind) => {
-                    t = v;
-                    m = k;
-                    y = z;
-                    count += 1;
-                    children += more;
-                    free = free && kind != 13;
-                }
-            },
-        }
     }
 }
 
@@ -373,7 +278,7 @@ fn member_placed(
 }
 
 // The members of a block up to its brace, each stored where its group goes on, and how much they take.
-fn members_pass(
+pub fn members_pass(
     source: &[u8],
     block: Block,
     token: Current,

@@ -17,7 +17,7 @@ ghost use Prim.Native.Nat.{_≤_};
 ghost use lib.ListN.{length};
 ghost use Rattle.tree.specs.Stored.{declarationBranch, specializeValue};
 ghost use Rattle.notation.specs.Declarations.{parseTokens, parseExternalTokens, parseExternalSpecializer, parseSkipDeclaration, declares};
-ghost use Rattle.tokens.specs.Promise.{stream, startIn};
+ghost use Rattle.tokens.specs.Promise.{stream, startIn, LiesIn};
 ghost use Rattle.parser.specs.Storing.{lent, nodesOf};
 ghost use Rattle.parser.specs.Steps.{Parses};
 ghost use Rattle.parser.specs.Shapes.{IsToken};
@@ -251,34 +251,28 @@ pub fn parse_external_specializer(
     )
 }
 
-// Whether the members of a scoped skip, from its brace on, hold a top rule: a pass that stores nothing.
-fn holds_top(
-    source: &[u8],
-    token: Current,
-    n: usize,
-    x: usize,
-    records: &mut [u32],
-    texts: &mut [u8],
-) -> bool
-    requires { ⌜ Roomy (now source) token n x ⌝ }
+// Whether the members of a scoped skip, from its brace on, hold a top rule: a pass that stores nothing, and measures their group, the first.
+fn holds_top(source: &[u8], token: Current, records: &mut [u32], texts: &mut [u8]) -> bool
+    requires { ⌜ LiesIn (now source) 0 token × (length (now source) ≤ 0x10000) ⌝ }
     ensures { λ r. ⌜ HoldsTop (now (source .entry)) token r × (now (records .exit) ≡ now (records .entry)) × (now (texts .exit) ≡ now (texts .entry)) ⌝ }
 {
     let Arrived::At(u) = tokens::expect_punctuation(source, token, 0x7B) else {
         return false;
     };
-    let Listed::Done(_, _, _, count) = blocks::members_list(
+    let mut words = [0usize; 4];
+    let mut bytes = [0usize; 4];
+    let Listed::Done(_, _, _, _) = blocks::members_pass(
         source,
         Block::Skip,
-        2,
         u,
+        &mut words,
+        &mut bytes,
         &mut records[..0],
-        n,
         &mut texts[..0],
-        x,
     ) else {
         return false;
     };
-    count != 0
+    words[0] != 0
 }
 
 // The members of a scoped skip, at its brace, behind its expression.
@@ -295,7 +289,7 @@ fn parse_scoped(
     ensures { λ r. ⌜ Scopes start (now (source .entry)) token
         (lent n (now (records .entry)) x (now (texts .entry))) (now (records .exit)) (now (texts .exit)) r ⌝ }
 {
-    let top = holds_top(source, token, n, x, records, texts);
+    let top = holds_top(source, token, records, texts);
     let listed = blocks::parse_block(source, Block::Skip, token, records, n, texts, x);
     let Listed::Done(v, m, y, count) = listed else {
         return Declared::Refused(listed.cause(), listed.place());

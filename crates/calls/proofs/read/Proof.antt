@@ -41,7 +41,10 @@ refuse-requires-3 c κs = search needs
 
 returns-2 : tie.Need-returns-2
 unfolding longest
-returns-2 c = (read-refused _ _ _ (c .refuse2 .result) (reading-ill _ (c .before .before .before .before .before .if1 .left) (sym (c .before .before .before .before .check .ensures) ∙ c .before .before .at .given .1)) (c .refuse2 .ensures), tt)
+returns-2 c =
+    let c4 = c .before .before .before .before in
+    let c5 = c4 .before in
+    (read-refused _ _ _ (c .refuse2 .result) (reading-ill _ (c5 .if1 .left) (sym (c4 .check .ensures) ∙ c .before .before .at .given .1)) (c .refuse2 .ensures), tt)
 
 same-length : tie.Need-same-length
 same-length c = search needs

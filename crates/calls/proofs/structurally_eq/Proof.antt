@@ -27,7 +27,9 @@ returns-2 : tie.Need-returns-2
 returns-2 c = compared-different _ _ _ _ (c .before .before .structurally-eq .result) (c .before .before .structurally-eq .ensures) (c .enum-told2 .given .1)
 
 returns-3 : tie.Need-returns-3
-returns-3 c = compared-not _ _ _ _ (c .before .before .before .structurally-eq .result) (c .before .before .before .structurally-eq .ensures) (c .refuse .result) (c .before .enum-told3 .given .1) (c .refuse .ensures)
+returns-3 c =
+    let c3 = c .before .before .before in
+    compared-not _ _ _ _ (c3 .structurally-eq .result) (c3 .structurally-eq .ensures) (c .refuse .result) (c .before .enum-told3 .given .1) (c .refuse .ensures)
 
 pub structurally-eq-spec : {M : Type 1} → statement M
 structurally-eq-spec =

@@ -24,14 +24,18 @@ same-length c = search needs
 
 returns : tie.Need-returns
 unfolding longest
-returns c = write-full _ (c .before .before .before .before .before .write-normal-text .result) (c .before .before .before .before .before .write-normal-text .ensures) _ (c .refuse .result) refl (c .refuse .ensures) (c .before .enum-told .given .1)
+returns c =
+    let c5 = c .before .before .before .before .before in
+    write-full _ (c5 .write-normal-text .result) (c5 .write-normal-text .ensures) _ (c .refuse .result) refl (c .refuse .ensures) (c .before .enum-told .given .1)
 
 same-length-2 : tie.Need-same-length-2
 same-length-2 c = search needs
 
 returns-2 : tie.Need-returns-2
 unfolding longest
-returns-2 c = write-done _ (c .before .before .before .before .before .write-normal-text .result) (c .before .before .before .before .before .write-normal-text .ensures) _ refl (c .before .m .given .1)
+returns-2 c =
+    let c5 = c .before .before .before .before .before in
+    write-done _ (c5 .write-normal-text .result) (c5 .write-normal-text .ensures) _ refl (c .before .m .given .1)
 
 pub write-spec : {M : Type 1} → statement M
 write-spec =

@@ -29,7 +29,11 @@ skip-ascii-requires : tie.Need-skip-ascii-requires Inv-loop μ-loop
 skip-ascii-requires c κs = omega arith
 
 loop-less : tie.Need-loop-less Inv-loop μ-loop
-loop-less c = let r = run-next isAscii (now (c .before .before .before .before .before .before .args .text)) (c .before .before .before .before .loop .at) (c .before .before .before .loop-test .taken) (ascii-yes _ (c .before .if1 .taken)) in omega arith
+loop-less c =
+    let c3 = c .before .before .before in
+    let c4 = c3 .before in
+    let c6 = c4 .before .before in
+    let r = run-next isAscii (now (c6 .args .text)) (c4 .loop .at) (c3 .loop-test .taken) (ascii-yes _ (c .before .if1 .taken)) in omega arith
 
 loop-again : tie.Need-loop-again Inv-loop μ-loop
 loop-again c = rw (c .skip-ascii .ensures) (sym (check-skip _ _) ∙ c .before .before .before .before .loop .inv)
@@ -44,7 +48,10 @@ enum-told : tie.Need-enum-told Inv-loop μ-loop
 enum-told c = search needs
 
 returns : tie.Need-returns Inv-loop μ-loop
-returns c = sym (check-bad _ _ (c .before .before .before .before .before .loop-test .taken) (sym (c .before .before .decode-wide .ensures) ∙ c .enum-told .given .1)) ∙ c .before .before .before .before .before .before .loop .inv
+returns c =
+    let c5 = c .before .before .before .before .before in
+    let c6 = c5 .before in
+    sym (check-bad _ _ (c5 .loop-test .taken) (sym (c .before .before .decode-wide .ensures) ∙ c .enum-told .given .1)) ∙ c6 .loop .inv
 
 add-at : tie.Need-add-at Inv-loop μ-loop
 add-at c = let f = scalar-fits _ _ (sym (c .before .before .before .decode-wide .ensures) ∙ c .before .n .given .1) in omega arith

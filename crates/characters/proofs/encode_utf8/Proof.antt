@@ -32,7 +32,10 @@ returns-3 : tie.Need-returns-3
 returns-3 c = put-in _ _ (_ ∷ []) (bytes-some _ (sym (c .before .before .before .is-scalar .ensures) ∙ not-false _ (c .before .before .if1 .left)) ∙ encode-1 _ (c .before .if2 .taken)) (omega arith)
 
 returns-4 : tie.Need-returns-4
-returns-4 c = put-out _ _ (_ ∷ _ ∷ []) (bytes-some _ (sym (c .before .before .before .before .is-scalar .ensures) ∙ not-false _ (c .before .before .before .if1 .left)) ∙ encode-2 _ (c .before .before .if2 .left) (c .before .if4 .taken)) (omega arith)
+returns-4 c =
+    let c3 = c .before .before .before in
+    let c4 = c3 .before in
+    put-out _ _ (_ ∷ _ ∷ []) (bytes-some _ (sym (c4 .is-scalar .ensures) ∙ not-false _ (c3 .if1 .left)) ∙ encode-2 _ (c .before .before .if2 .left) (c .before .if4 .taken)) (omega arith)
 
 add-out : tie.Need-add-out
 add-out c = search needs
@@ -56,10 +59,16 @@ same-length-2 : tie.Need-same-length-2
 same-length-2 c = search needs
 
 returns-5 : tie.Need-returns-5
-returns-5 c = put-in _ _ (_ ∷ _ ∷ []) (bytes-some _ (sym (c .before .before .before .before .is-scalar .ensures) ∙ not-false _ (c .before .before .before .if1 .left)) ∙ encode-2 _ (c .before .before .if2 .left) (c .before .if4 .taken)) (omega arith)
+returns-5 c =
+    let c3 = c .before .before .before in
+    let c4 = c3 .before in
+    put-in _ _ (_ ∷ _ ∷ []) (bytes-some _ (sym (c4 .is-scalar .ensures) ∙ not-false _ (c3 .if1 .left)) ∙ encode-2 _ (c .before .before .if2 .left) (c .before .if4 .taken)) (omega arith)
 
 returns-6 : tie.Need-returns-6
-returns-6 c = put-out _ _ (_ ∷ _ ∷ _ ∷ []) (bytes-some _ (sym (c .before .before .before .before .before .is-scalar .ensures) ∙ not-false _ (c .before .before .before .before .if1 .left)) ∙ encode-3 _ (c .before .before .if4 .left) (c .before .if6 .taken)) (omega arith)
+returns-6 c =
+    let c4 = c .before .before .before .before in
+    let c5 = c4 .before in
+    put-out _ _ (_ ∷ _ ∷ _ ∷ []) (bytes-some _ (sym (c5 .is-scalar .ensures) ∙ not-false _ (c4 .if1 .left)) ∙ encode-3 _ (c .before .before .if4 .left) (c .before .if6 .taken)) (omega arith)
 
 add-out-3 : tie.Need-add-out-3
 add-out-3 c = search needs
@@ -92,10 +101,16 @@ same-length-3 : tie.Need-same-length-3
 same-length-3 c = search needs
 
 returns-7 : tie.Need-returns-7
-returns-7 c = put-in _ _ (_ ∷ _ ∷ _ ∷ []) (bytes-some _ (sym (c .before .before .before .before .before .is-scalar .ensures) ∙ not-false _ (c .before .before .before .before .if1 .left)) ∙ encode-3 _ (c .before .before .if4 .left) (c .before .if6 .taken)) (omega arith)
+returns-7 c =
+    let c4 = c .before .before .before .before in
+    let c5 = c4 .before in
+    put-in _ _ (_ ∷ _ ∷ _ ∷ []) (bytes-some _ (sym (c5 .is-scalar .ensures) ∙ not-false _ (c4 .if1 .left)) ∙ encode-3 _ (c .before .before .if4 .left) (c .before .if6 .taken)) (omega arith)
 
 returns-8 : tie.Need-returns-8
-returns-8 c = put-out _ _ (_ ∷ _ ∷ _ ∷ _ ∷ []) (bytes-some _ (sym (c .before .before .before .before .before .is-scalar .ensures) ∙ not-false _ (c .before .before .before .before .if1 .left)) ∙ encode-4 _ (c .before .if6 .left)) (omega arith)
+returns-8 c =
+    let c4 = c .before .before .before .before in
+    let c5 = c4 .before in
+    put-out _ _ (_ ∷ _ ∷ _ ∷ _ ∷ []) (bytes-some _ (sym (c5 .is-scalar .ensures) ∙ not-false _ (c4 .if1 .left)) ∙ encode-4 _ (c .before .if6 .left)) (omega arith)
 
 add-out-6 : tie.Need-add-out-6
 add-out-6 c = search needs
@@ -137,7 +152,10 @@ same-length-4 : tie.Need-same-length-4
 same-length-4 c = search needs
 
 returns-9 : tie.Need-returns-9
-returns-9 c = put-in _ _ (_ ∷ _ ∷ _ ∷ _ ∷ []) (bytes-some _ (sym (c .before .before .before .before .before .is-scalar .ensures) ∙ not-false _ (c .before .before .before .before .if1 .left)) ∙ encode-4 _ (c .before .if6 .left)) (omega arith)
+returns-9 c =
+    let c4 = c .before .before .before .before in
+    let c5 = c4 .before in
+    put-in _ _ (_ ∷ _ ∷ _ ∷ _ ∷ []) (bytes-some _ (sym (c5 .is-scalar .ensures) ∙ not-false _ (c4 .if1 .left)) ∙ encode-4 _ (c .before .if6 .left)) (omega arith)
 
 pub encode-utf8-spec : {M : Type 1} → statement M
 encode-utf8-spec =

@@ -37,7 +37,9 @@ loop-less : tie.Need-loop-less Inv-loop μ-loop
 loop-less c = omega arith
 
 loop-again : tie.Need-loop-again Inv-loop μ-loop
-loop-again c = (omega arith, omega (arith, c .shared-slice-known .given (c .before .before .before .args .at + c .before .before .loop .k)), high-more (now (c .before .before .before .args .text)) (c .before .before .before .args .at) (c .before .before .loop .k) (c .before .before .loop .high) (omega arith) (c .before .before .loop .inv .2))
+loop-again c =
+    let c3 = c .before .before .before in
+    (omega arith, omega (arith, c .shared-slice-known .given (c3 .args .at + c .before .before .loop .k)), high-more (now (c3 .args .text)) (c3 .args .at) (c .before .before .loop .k) (c .before .before .loop .high) (omega arith) (c .before .before .loop .inv .2))
 
 returns : tie.Need-returns Inv-loop μ-loop
 returns c = let q : c .before .loop .k ≡ 128 = omega arith in rw q at (c .before .loop .inv .2)

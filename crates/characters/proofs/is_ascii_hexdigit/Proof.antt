@@ -23,7 +23,10 @@ is-within-requires-2 c κs = search needs
 
 returns-3 : tie.Need-returns-3
 unfolding isAsciiDigit isAsciiHexdigit
-returns-3 c = simp (← c .before .before .before .before .is-ascii-digit .ensures, c .before .before .before .if1 .left, ← c .before .before .is-within .ensures, c .before .if2 .left, c .is-within2 .ensures)
+returns-3 c =
+    let c3 = c .before .before .before in
+    let c4 = c3 .before in
+    simp (← c4 .is-ascii-digit .ensures, c3 .if1 .left, ← c .before .before .is-within .ensures, c .before .if2 .left, c .is-within2 .ensures)
 
 pub is-ascii-hexdigit-spec : {M : Type 1} → statement M
 is-ascii-hexdigit-spec =

@@ -27,7 +27,10 @@ returns-3 c = simp (eq-eqb _ _ (c .if3 .taken))
 
 returns-4 : tie.Need-returns-4
 unfolding isAsciiWord isAsciiDigit
-returns-4 c = simp (← c .before .before .before .before .is-ascii-letter .ensures, c .before .before .before .if1 .left, ← c .before .before .is-ascii-digit .ensures, c .before .if2 .left, ne-eqb _ _ (c .if3 .left), or-false)
+returns-4 c =
+    let c3 = c .before .before .before in
+    let c4 = c3 .before in
+    simp (← c4 .is-ascii-letter .ensures, c3 .if1 .left, ← c .before .before .is-ascii-digit .ensures, c .before .if2 .left, ne-eqb _ _ (c .if3 .left), or-false)
 
 pub is-ascii-word-spec : {M : Type 1} → statement M
 is-ascii-word-spec =

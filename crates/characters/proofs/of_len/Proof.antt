@@ -60,7 +60,10 @@ add-t31 c = search needs
 
 returns-3 : tie.Need-returns-3
 unfolding charOf
-returns-3 c = simp (c .before .before .before .before .match .keys4, ← c .before .before .before .is-within2 .ensures, not-false (c .before .before .before .is-within2 .result) (c .before .before .if2 .left), ← c .before .is-within3 .ensures, c .if3 .taken)
+returns-3 c =
+    let c3 = c .before .before .before in
+    let c4 = c3 .before in
+    simp (c4 .match .keys4, ← c3 .is-within2 .ensures, not-false (c3 .is-within2 .result) (c .before .before .if2 .left), ← c .before .is-within3 .ensures, c .if3 .taken)
 
 returns-4 : tie.Need-returns-4
 unfolding charOf
@@ -76,7 +79,10 @@ returns-6 c = simp (c .before .before .match .keys3, ← c .before .is-within .e
 
 returns-7 : tie.Need-returns-7
 unfolding charOf
-returns-7 c = simp (c .before .before .before .before .match .keys4, ← c .before .before .before .is-within2 .ensures, not-false (c .before .before .before .is-within2 .result) (c .before .before .if2 .left), ← c .before .is-within3 .ensures, c .if3 .left)
+returns-7 c =
+    let c3 = c .before .before .before in
+    let c4 = c3 .before in
+    simp (c4 .match .keys4, ← c3 .is-within2 .ensures, not-false (c3 .is-within2 .result) (c .before .before .if2 .left), ← c .before .is-within3 .ensures, c .if3 .left)
 
 returns-8 : tie.Need-returns-8
 unfolding charOf

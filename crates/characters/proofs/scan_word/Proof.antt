@@ -37,7 +37,11 @@ is-word-requires : tie.Need-is-word-requires Inv-loop μ-loop
 is-word-requires c κs = tt
 
 returns-2 : tie.Need-returns-2 Inv-loop μ-loop
-returns-2 c = sym (run-off _ _ _ (sym (c .before .before .before .before .before .decode .ensures) ∙ c .before .before .before .c .given .1) (sym (c .before .is-word .ensures) ∙ not-true _ (c .if1 .taken))) ∙ c .before .before .before .before .before .before .loop .inv
+returns-2 c =
+    let c3 = c .before .before .before in
+    let c5 = c3 .before .before in
+    let c6 = c5 .before in
+    sym (run-off _ _ _ (sym (c5 .decode .ensures) ∙ c3 .c .given .1) (sym (c .before .is-word .ensures) ∙ not-true _ (c .if1 .taken))) ∙ c6 .loop .inv
 
 add-at : tie.Need-add-at Inv-loop μ-loop
 add-at c = let f = scalar-fits _ _ (sym (c .before .before .before .before .before .decode .ensures) ∙ c .before .before .before .c .given .1) in omega arith
@@ -46,7 +50,11 @@ loop-less : tie.Need-loop-less Inv-loop μ-loop
 loop-less c = let f = scalar-fits _ _ (sym (c .before .before .before .before .before .decode .ensures) ∙ c .before .before .before .c .given .1) in omega arith
 
 loop-again : tie.Need-loop-again Inv-loop μ-loop
-loop-again c = sym (run-on _ _ _ (sym (c .before .before .before .before .before .decode .ensures) ∙ c .before .before .before .c .given .1) (sym (c .before .is-word .ensures) ∙ not-false _ (c .if1 .left))) ∙ c .before .before .before .before .before .before .loop .inv
+loop-again c =
+    let c3 = c .before .before .before in
+    let c5 = c3 .before .before in
+    let c6 = c5 .before in
+    sym (run-on _ _ _ (sym (c5 .decode .ensures) ∙ c3 .c .given .1) (sym (c .before .is-word .ensures) ∙ not-false _ (c .if1 .left))) ∙ c6 .loop .inv
 
 pub scan-word-spec : {M : Type 1} → statement M
 scan-word-spec =

@@ -40,7 +40,10 @@ loop-less : tie.Need-loop-less Inv-loop μ-loop Inv-loop2 μ-loop2
 loop-less c = omega arith
 
 loop-again : tie.Need-loop-again Inv-loop μ-loop Inv-loop2 μ-loop2
-loop-again c = let r = run-part isAscii (now (c .before .before .before .before .before .args .text)) (c .before .before .before .loop .at) 128 (omega arith) (sym (c .before .is-ascii-block .ensures) ∙ not-false _ (c .if1 .left)) in (omega arith, omega arith)
+loop-again c =
+    let c3 = c .before .before .before in
+    let c5 = c3 .before .before in
+    let r = run-part isAscii (now (c5 .args .text)) (c3 .loop .at) 128 (omega arith) (sym (c .before .is-ascii-block .ensures) ∙ not-false _ (c .if1 .left)) in (omega arith, omega arith)
 
 loop2-holds : tie.Need-loop2-holds Inv-loop μ-loop Inv-loop2 μ-loop2
 loop2-holds c = ⊎-elim (λ w. c .before .loop .inv) (λ w. c .before .loop .inv) (c .loop-test .came)
@@ -49,7 +52,10 @@ shared-slice-read-if2 : tie.Need-shared-slice-read-if2 Inv-loop μ-loop Inv-loop
 shared-slice-read-if2 c = omega arith
 
 returns : tie.Need-returns Inv-loop μ-loop Inv-loop2 μ-loop2
-returns c = let r = run-stop isAscii (now (c .before .before .before .before .before .before .before .args .text)) (c .before .before .before .loop2 .at) (c .before .before .loop2-test .taken) (ascii-no _ (c .if2 .taken)) in omega arith
+returns c =
+    let c3 = c .before .before .before in
+    let c7 = c3 .before .before .before .before in
+    let r = run-stop isAscii (now (c7 .args .text)) (c3 .loop2 .at) (c .before .before .loop2-test .taken) (ascii-no _ (c .if2 .taken)) in omega arith
 
 add-at-2 : tie.Need-add-at-2 Inv-loop μ-loop Inv-loop2 μ-loop2
 add-at-2 c = omega arith
@@ -58,7 +64,10 @@ loop2-less : tie.Need-loop2-less Inv-loop μ-loop Inv-loop2 μ-loop2
 loop2-less c = omega arith
 
 loop2-again : tie.Need-loop2-again Inv-loop μ-loop Inv-loop2 μ-loop2
-loop2-again c = let r = run-next isAscii (now (c .before .before .before .before .before .before .before .args .text)) (c .before .before .before .loop2 .at) (c .before .before .loop2-test .taken) (ascii-yes _ (c .if2 .left)) in (omega arith, omega arith)
+loop2-again c =
+    let c3 = c .before .before .before in
+    let c7 = c3 .before .before .before .before in
+    let r = run-next isAscii (now (c7 .args .text)) (c3 .loop2 .at) (c .before .before .loop2-test .taken) (ascii-yes _ (c .if2 .left)) in (omega arith, omega arith)
 
 returns-2 : tie.Need-returns-2 Inv-loop μ-loop Inv-loop2 μ-loop2
 returns-2 c = let r = run-end isAscii (now (c .before .before .before .before .before .args .text)) (c .before .loop2 .at) (c .loop2-test .left) in omega arith

@@ -33,7 +33,10 @@ same-length-4 : tie.Need-same-length-4
 same-length-4 c = search needs
 
 returns : tie.Need-returns
-returns c = written-to _ _ _ _ _ _ (c .before .before .before .before .before .before .before .before .before .before .before .before .before .normal-text .ensures) (c .before .before .before .before .before .bytes .given .1) (c .before .before .put .ensures)
+returns c =
+    let c5 = c .before .before .before .before .before in
+    let c13 = c5 .before .before .before .before .before .before .before .before in
+    written-to _ _ _ _ _ _ (c13 .normal-text .ensures) (c5 .bytes .given .1) (c .before .before .put .ensures)
 
 same-length-5 : tie.Need-same-length-5
 same-length-5 c = search needs
@@ -48,7 +51,10 @@ same-length-8 : tie.Need-same-length-8
 same-length-8 c = search needs
 
 returns-2 : tie.Need-returns-2
-returns-2 c = unwritten-to _ _ _ _ _ _ (c .before .before .before .before .before .before .before .before .before .before .before .before .before .normal-text .ensures) (c .before .before .before .before .before .refusal .given .1) (c .before .before .put-refusal .ensures)
+returns-2 c =
+    let c5 = c .before .before .before .before .before in
+    let c13 = c5 .before .before .before .before .before .before .before .before in
+    unwritten-to _ _ _ _ _ _ (c13 .normal-text .ensures) (c5 .refusal .given .1) (c .before .before .put-refusal .ensures)
 
 pub hemvuda-normal-text-spec : {M : Type 1} → statement M
 hemvuda-normal-text-spec =

@@ -30,7 +30,10 @@ same-length-3 : tie.Need-same-length-3
 same-length-3 c = search needs
 
 returns : tie.Need-returns
-returns c = stored-to _ _ _ _ _ (c .before .before .before .before .before .before .before .before .before .before .before .read .ensures .0) (c .before .before .before .before .before .words .given .1) (c .before .before .put .ensures)
+returns c =
+    let c5 = c .before .before .before .before .before in
+    let c11 = c5 .before .before .before .before .before .before in
+    stored-to _ _ _ _ _ (c11 .read .ensures .0) (c5 .words .given .1) (c .before .before .put .ensures)
 
 same-length-4 : tie.Need-same-length-4
 same-length-4 c = search needs
@@ -42,7 +45,10 @@ same-length-6 : tie.Need-same-length-6
 same-length-6 c = search needs
 
 returns-2 : tie.Need-returns-2
-returns-2 c = refused-to _ _ _ _ _ (c .before .before .before .before .before .before .before .before .before .before .before .read .ensures .0) (c .before .before .before .before .before .refusal .given .1) (c .before .before .put-refusal .ensures)
+returns-2 c =
+    let c5 = c .before .before .before .before .before in
+    let c11 = c5 .before .before .before .before .before .before in
+    refused-to _ _ _ _ _ (c11 .read .ensures .0) (c5 .refusal .given .1) (c .before .before .put-refusal .ensures)
 
 pub hemvuda-read-spec : {M : Type 1} → statement M
 hemvuda-read-spec =

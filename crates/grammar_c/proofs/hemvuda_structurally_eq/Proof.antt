@@ -27,13 +27,19 @@ same-length : tie.Need-same-length
 same-length c = search needs
 
 returns : tie.Need-returns
-returns c = compared-to _ _ _ _ _ _ (c .before .before .before .before .before .before .before .structurally-eq .ensures) (c .before .before .before .before .before .equal .given .1) (c .before .before .put .ensures)
+returns c =
+    let c5 = c .before .before .before .before .before in
+    let c7 = c5 .before .before in
+    compared-to _ _ _ _ _ _ (c7 .structurally-eq .ensures) (c5 .equal .given .1) (c .before .before .put .ensures)
 
 same-length-2 : tie.Need-same-length-2
 same-length-2 c = search needs
 
 returns-2 : tie.Need-returns-2
-returns-2 c = uncompared-to _ _ _ _ _ _ (c .before .before .before .before .before .before .before .structurally-eq .ensures) (c .before .before .before .before .before .refusal .given .1) (c .before .before .put-refusal .ensures)
+returns-2 c =
+    let c5 = c .before .before .before .before .before in
+    let c7 = c5 .before .before in
+    uncompared-to _ _ _ _ _ _ (c7 .structurally-eq .ensures) (c5 .refusal .given .1) (c .before .before .put-refusal .ensures)
 
 pub hemvuda-structurally-eq-spec : {M : Type 1} → statement M
 hemvuda-structurally-eq-spec =

@@ -16,7 +16,11 @@ enum-known-token : tie.Need-enum-known-token
 enum-known-token c = search needs
 
 parse-at-requires : tie.Need-parse-at-requires
-parse-at-requires c κs = (c .before .before .before .before .before .before .before .before .before .pre, first-is _ _ (c .before .before .before .before .before .arrive .ensures) (c .before .before .before .token .given .1))
+parse-at-requires c κs =
+    let c3 = c .before .before .before in
+    let c5 = c3 .before .before in
+    let c9 = c5 .before .before .before .before in
+    (c9 .pre, first-is _ _ (c5 .arrive .ensures) (c3 .token .given .1))
 
 returns : tie.Need-returns
 returns c = (stopped-first _ _ (c .before .before .before .arrive .ensures) _ _ (c .before .cause .given .1), refl, refl)

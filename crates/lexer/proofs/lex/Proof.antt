@@ -55,10 +55,14 @@ lex-set-requires c κs =
 
 returns-2 : tie.Need-returns-2
 returns-2 c =
-    let d = sym (c .before .before .before .before .before .before .before .decode .ensures) ∙ (c .before .before .before .before .before .c .given .1) in
-    let h = (c .before .before .before .match2 .rest) in
+    let c3 = c .before .before .before in
+    let c5 = c3 .before .before in
+    let c7 = c5 .before .before in
+    let c9 = c7 .before .before in
+    let d = sym (c7 .decode .ensures) ∙ (c5 .c .given .1) in
+    let h = (c3 .match2 .rest) in
     let k = at-one _ _ d _ (set-ascii _ _ _ (sym (c .before .before .opens-set .ensures) ∙ (c .before .if1 .taken))) refl in
-    reads-1 _ _ d _ (set-ascii _ _ _ (sym (c .before .before .opens-set .ensures) ∙ (c .before .if1 .taken))) refl (c .before .before .before .before .before .before .before .before .before .pre) (solid-set _ _ _ (h .0 .0 .1) (h .0 .1) (h .1) (rw k at (sym (c .before .before .opens-set .ensures) ∙ (c .before .if1 .taken)))) (c .lex-set .ensures)
+    reads-1 _ _ d _ (set-ascii _ _ _ (sym (c .before .before .opens-set .ensures) ∙ (c .before .if1 .taken))) refl (c9 .pre) (solid-set _ _ _ (h .0 .0 .1) (h .0 .1) (h .1) (rw k at (sym (c .before .before .opens-set .ensures) ∙ (c .before .if1 .taken)))) (c .lex-set .ensures)
 
 is-punctuation-requires : tie.Need-is-punctuation-requires
 is-punctuation-requires c κs = search needs
@@ -71,16 +75,23 @@ add-t13 c =
 
 returns-3 : tie.Need-returns-3
 returns-3 c =
-    let d = sym (c .before .before .before .before .before .before .before .before .decode .ensures) ∙ (c .before .before .before .before .before .before .c .given .1) in
-    let h = (c .before .before .before .before .match2 .rest) in
-    reads _ _ d (c .before .before .before .before .before .before .before .before .before .before .pre) (solid-mark _ _ _ (h .0 .0 .1) (h .0 .1) (h .1) (sym (c .before .before .before .opens-set .ensures) ∙ (c .before .before .if1 .left)) (sym (c .before .is-punctuation .ensures) ∙ (c .if2 .taken))) (mark-lexes _ _ d)
+    let c3 = c .before .before .before in
+    let c4 = c3 .before in
+    let c6 = c4 .before .before in
+    let c8 = c6 .before .before in
+    let c10 = c8 .before .before in
+    let d = sym (c8 .decode .ensures) ∙ (c6 .c .given .1) in
+    let h = (c4 .match2 .rest) in
+    reads _ _ d (c10 .pre) (solid-mark _ _ _ (h .0 .0 .1) (h .0 .1) (h .1) (sym (c3 .opens-set .ensures) ∙ (c .before .before .if1 .left)) (sym (c .before .is-punctuation .ensures) ∙ (c .if2 .taken))) (mark-lexes _ _ d)
 
 is-word-requires : tie.Need-is-word-requires
 is-word-requires c κs = search needs
 
 add-scan-word : tie.Need-add-scan-word
 add-scan-word c =
-    let d = sym (c .before .before .before .before .before .before .before .before .before .before .decode .ensures) ∙ (c .before .before .before .before .before .before .before .before .c .given .1) in
+    let c8 = c .before .before .before .before .before .before .before .before in
+    let c10 = c8 .before .before in
+    let d = sym (c10 .decode .ensures) ∙ (c8 .c .given .1) in
     let f = scalar-fits _ _ d in
     omega arith
 

@@ -56,9 +56,14 @@ enum-told-2 c = search needs
 
 returns-3 : tie.Need-returns-3 Inv-loop μ-loop
 returns-3 c =
-    let d = sym (c .before .before .before .before .before .before .before .before .decode .ensures) ∙ (c .before .before .before .before .before .before .c .given .1) in
-    sym (end-escape never 0x5D _ _ d (c .before .before .before .before .if1 .left) (c .before .before .before .if2 .taken) ∙ end-ill never 0x5D _ _ true (sym (c .before .before .decode2 .ensures) ∙ (c .enum-told2 .given .1)))
-    ∙ (c .before .before .before .before .before .before .before .before .before .loop .inv)
+    let c3 = c .before .before .before in
+    let c4 = c3 .before in
+    let c6 = c4 .before .before in
+    let c8 = c6 .before .before in
+    let c9 = c8 .before in
+    let d = sym (c8 .decode .ensures) ∙ (c6 .c .given .1) in
+    sym (end-escape never 0x5D _ _ d (c4 .if1 .left) (c3 .if2 .taken) ∙ end-ill never 0x5D _ _ true (sym (c .before .before .decode2 .ensures) ∙ (c .enum-told2 .given .1)))
+    ∙ (c9 .loop .inv)
 
 add-cursor-2 : tie.Need-add-cursor-2 Inv-loop μ-loop
 add-cursor-2 c =

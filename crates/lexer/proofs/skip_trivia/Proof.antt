@@ -105,10 +105,12 @@ add-cursor-2 c = let f = (next-head _ _ 0x2F (omega arith) (omega arith) (sym (c
 
 line-holds : tie.Need-line-holds Inv-space μ-space Inv-line μ-line Inv-block μ-block Inv-trivia μ-trivia
 line-holds c =
+    let c3 = c .before .before .before in
+    let c10 = c3 .before .before .before .before .before .before .before in
     let f = (next-head _ _ 0x2F (omega arith) (omega arith) (sym (c .before .peek2 .ensures) ∙ (c .if3 .taken))) .inside in (
-      omega (arith, (c .before .before .before .before .before .before .before .before .before .before .space .inv .0)),
+      omega (arith, (c10 .space .inv .0)),
       omega arith,
-      sym (line-start _ _ (next-head _ _ 0x2F (omega arith) (omega arith) (sym (c .before .before .before .peek .ensures) ∙ (c .before .before .if2 .left))) (next-head _ _ 0x2F (omega arith) (omega arith) (sym (c .before .peek2 .ensures) ∙ (c .if3 .taken)))) ∙ (c .before .before .before .before .before .before .before .before .before .before .space .inv .1),
+      sym (line-start _ _ (next-head _ _ 0x2F (omega arith) (omega arith) (sym (c3 .peek .ensures) ∙ (c .before .before .if2 .left))) (next-head _ _ 0x2F (omega arith) (omega arith) (sym (c .before .peek2 .ensures) ∙ (c .if3 .taken)))) ∙ (c10 .space .inv .1),
     )
 
 decode-requires-2 : tie.Need-decode-requires-2 Inv-space μ-space Inv-line μ-line Inv-block μ-block Inv-trivia μ-trivia
@@ -135,9 +137,13 @@ is-line-terminator-requires c κs = tt
 
 trivia-less-2 : tie.Need-trivia-less-2 Inv-space μ-space Inv-line μ-line Inv-block μ-block Inv-trivia μ-trivia
 trivia-less-2 c =
-    let d₂ = sym (c .before .before .before .before .before .decode2 .ensures) ∙ (c .before .before .before .e .given .1) in
+    let c3 = c .before .before .before in
+    let c5 = c3 .before .before in
+    let c6 = c5 .before in
+    let c17 = c6 .before .before .before .before .before .before .before .before .before .before .before in
+    let d₂ = sym (c5 .decode2 .ensures) ∙ (c3 .e .given .1) in
     let f = scalar-fits _ _ d₂ in
-    omega (arith, (c .before .before .before .before .before .before .line .inv .0), (c .before .before .before .before .before .before .before .before .before .before .before .before .before .before .before .before .before .space .inv .0))
+    omega (arith, (c6 .line .inv .0), (c17 .space .inv .0))
 
 trivia-again-2 : tie.Need-trivia-again-2 Inv-space μ-space Inv-line μ-line Inv-block μ-block Inv-trivia μ-trivia
 trivia-again-2 c =
@@ -188,10 +194,13 @@ add-cursor-4 c =
 
 block-holds : tie.Need-block-holds Inv-space μ-space Inv-line μ-line Inv-block μ-block Inv-trivia μ-trivia
 block-holds c =
+    let c3 = c .before .before .before in
+    let c4 = c3 .before in
+    let c11 = c4 .before .before .before .before .before .before .before in
     let f = (next-head _ _ 0x2A (omega arith) (omega arith) (sym (c .before .before .peek2 .ensures) ∙ (c .if5 .left))) .inside in (
-      omega (arith, (c .before .before .before .before .before .before .before .before .before .before .before .space .inv .0)),
+      omega (arith, (c11 .space .inv .0)),
       omega arith,
-      sym (block-start _ _ (next-head _ _ 0x2F (omega arith) (omega arith) (sym (c .before .before .before .before .peek .ensures) ∙ (c .before .before .before .if2 .left))) (next-head _ _ 0x2A (omega arith) (omega arith) (sym (c .before .before .peek2 .ensures) ∙ (c .if5 .left)))) ∙ (c .before .before .before .before .before .before .before .before .before .before .before .space .inv .1),
+      sym (block-start _ _ (next-head _ _ 0x2F (omega arith) (omega arith) (sym (c4 .peek .ensures) ∙ (c3 .if2 .left))) (next-head _ _ 0x2A (omega arith) (omega arith) (sym (c .before .before .peek2 .ensures) ∙ (c .if5 .left)))) ∙ (c11 .space .inv .1),
     )
 
 decode-requires-3 : tie.Need-decode-requires-3 Inv-space μ-space Inv-line μ-line Inv-block μ-block Inv-trivia μ-trivia
@@ -218,10 +227,14 @@ add-cursor-6 c = let f = shut-inside _ _ (sym (c .before .peek3 .ensures) ∙ (c
 
 trivia-less-3 : tie.Need-trivia-less-3 Inv-space μ-space Inv-line μ-line Inv-block μ-block Inv-trivia μ-trivia
 trivia-less-3 c =
-    let d₃ = sym (c .before .before .before .before .before .before .decode3 .ensures) ∙ (c .before .before .before .before .e2 .given .1) in
+    let c4 = c .before .before .before .before in
+    let c6 = c4 .before .before in
+    let c7 = c6 .before in
+    let c19 = c7 .before .before .before .before .before .before .before .before .before .before .before .before in
+    let d₃ = sym (c6 .decode3 .ensures) ∙ (c4 .e2 .given .1) in
     let f = scalar-fits _ _ d₃ in
     let g = shut-inside _ _ (sym (c .before .peek3 .ensures) ∙ (c .if7 .taken)) in
-    omega (arith, (c .before .before .before .before .before .before .before .block .inv .0), (c .before .before .before .before .before .before .before .before .before .before .before .before .before .before .before .before .before .before .before .space .inv .0))
+    omega (arith, (c7 .block .inv .0), (c19 .space .inv .0))
 
 trivia-again-3 : tie.Need-trivia-again-3 Inv-space μ-space Inv-line μ-line Inv-block μ-block Inv-trivia μ-trivia
 trivia-again-3 c =

@@ -57,42 +57,69 @@ enum-told-2 c = search needs
 
 returns-3 : tie.Need-returns-3 Inv-loop μ-loop
 returns-3 c =
-    let d = sym (c .before .before .before .before .before .before .before .before .decode .ensures) ∙ (c .before .before .before .before .before .before .c .given .1) in
-    sym (end-escape isLineTerminator _ _ _ d (c .before .before .before .before .if1 .left) (c .before .before .before .if2 .taken) ∙ end-ill isLineTerminator _ _ _ true (sym (c .before .before .decode2 .ensures) ∙ (c .enum-told2 .given .1)))
-    ∙ (c .before .before .before .before .before .before .before .before .before .loop .inv)
+    let c3 = c .before .before .before in
+    let c4 = c3 .before in
+    let c6 = c4 .before .before in
+    let c8 = c6 .before .before in
+    let c9 = c8 .before in
+    let d = sym (c8 .decode .ensures) ∙ (c6 .c .given .1) in
+    sym (end-escape isLineTerminator _ _ _ d (c4 .if1 .left) (c3 .if2 .taken) ∙ end-ill isLineTerminator _ _ _ true (sym (c .before .before .decode2 .ensures) ∙ (c .enum-told2 .given .1)))
+    ∙ (c9 .loop .inv)
 
 is-line-terminator-requires : tie.Need-is-line-terminator-requires Inv-loop μ-loop
 is-line-terminator-requires c κs = tt
 
 returns-4 : tie.Need-returns-4 Inv-loop μ-loop
 returns-4 c =
-    let d = sym (c .before .before .before .before .before .before .before .before .before .before .before .decode .ensures) ∙ (c .before .before .before .before .before .before .before .before .before .c .given .1) in
-    let d₂ = sym (c .before .before .before .before .before .decode2 .ensures) ∙ (c .before .before .before .d .given .1) in
-    sym (end-escape isLineTerminator _ _ _ d (c .before .before .before .before .before .before .before .if1 .left) (c .before .before .before .before .before .before .if2 .taken) ∙ end-stop isLineTerminator _ _ _ d₂ (sym (c .before .is-line-terminator .ensures) ∙ (c .if3 .taken)))
-    ∙ (c .before .before .before .before .before .before .before .before .before .before .before .before .loop .inv)
+    let c3 = c .before .before .before in
+    let c5 = c3 .before .before in
+    let c6 = c5 .before in
+    let c7 = c6 .before in
+    let c9 = c7 .before .before in
+    let c11 = c9 .before .before in
+    let c12 = c11 .before in
+    let d = sym (c11 .decode .ensures) ∙ (c9 .c .given .1) in
+    let d₂ = sym (c5 .decode2 .ensures) ∙ (c3 .d .given .1) in
+    sym (end-escape isLineTerminator _ _ _ d (c7 .if1 .left) (c6 .if2 .taken) ∙ end-stop isLineTerminator _ _ _ d₂ (sym (c .before .is-line-terminator .ensures) ∙ (c .if3 .taken)))
+    ∙ (c12 .loop .inv)
 
 add-cursor-2 : tie.Need-add-cursor-2 Inv-loop μ-loop
 add-cursor-2 c =
-    let d = sym (c .before .before .before .before .before .before .before .before .before .before .before .decode .ensures) ∙ (c .before .before .before .before .before .before .before .before .before .c .given .1) in
-    let d₂ = sym (c .before .before .before .before .before .decode2 .ensures) ∙ (c .before .before .before .d .given .1) in
+    let c3 = c .before .before .before in
+    let c5 = c3 .before .before in
+    let c9 = c5 .before .before .before .before in
+    let c11 = c9 .before .before in
+    let d = sym (c11 .decode .ensures) ∙ (c9 .c .given .1) in
+    let d₂ = sym (c5 .decode2 .ensures) ∙ (c3 .d .given .1) in
     let f = scalar-fits _ _ d in
     let g = scalar-fits _ _ d₂ in
     omega arith
 
 loop-less : tie.Need-loop-less Inv-loop μ-loop
 loop-less c =
-    let d = sym (c .before .before .before .before .before .before .before .before .before .before .before .decode .ensures) ∙ (c .before .before .before .before .before .before .before .before .before .c .given .1) in
-    let d₂ = sym (c .before .before .before .before .before .decode2 .ensures) ∙ (c .before .before .before .d .given .1) in
+    let c3 = c .before .before .before in
+    let c5 = c3 .before .before in
+    let c9 = c5 .before .before .before .before in
+    let c11 = c9 .before .before in
+    let d = sym (c11 .decode .ensures) ∙ (c9 .c .given .1) in
+    let d₂ = sym (c5 .decode2 .ensures) ∙ (c3 .d .given .1) in
     let f = scalar-fits _ _ d in
     let g = scalar-fits _ _ d₂ in
     omega arith
 
 loop-again : tie.Need-loop-again Inv-loop μ-loop
 loop-again c =
-    let d = sym (c .before .before .before .before .before .before .before .before .before .before .before .decode .ensures) ∙ (c .before .before .before .before .before .before .before .before .before .c .given .1) in
-    let d₂ = sym (c .before .before .before .before .before .decode2 .ensures) ∙ (c .before .before .before .d .given .1) in
-    sym (end-escape isLineTerminator _ _ _ d (c .before .before .before .before .before .before .before .if1 .left) (c .before .before .before .before .before .before .if2 .taken) ∙ end-escaped isLineTerminator _ _ _ d₂ (sym (c .before .is-line-terminator .ensures) ∙ (c .if3 .left)))
-    ∙ (c .before .before .before .before .before .before .before .before .before .before .before .before .loop .inv)
+    let c3 = c .before .before .before in
+    let c5 = c3 .before .before in
+    let c6 = c5 .before in
+    let c7 = c6 .before in
+    let c9 = c7 .before .before in
+    let c11 = c9 .before .before in
+    let c12 = c11 .before in
+    let d = sym (c11 .decode .ensures) ∙ (c9 .c .given .1) in
+    let d₂ = sym (c5 .decode2 .ensures) ∙ (c3 .d .given .1) in
+    sym (end-escape isLineTerminator _ _ _ d (c7 .if1 .left) (c6 .if2 .taken) ∙ end-escaped isLineTerminator _ _ _ d₂ (sym (c .before .is-line-terminator .ensures) ∙ (c .if3 .left)))
+    ∙ (c12 .loop .inv)
 
 loop-less-2 : tie.Need-loop-less-2 Inv-loop μ-loop
 loop-less-2 c =

@@ -74,37 +74,61 @@ same-length-2 : tie.Need-same-length-2
 same-length-2 c = search needs
 
 returns-2 : tie.Need-returns-2
-returns-2 c = answers _ _ (c .before .before .before .before .before .before .before .before .next .ensures) (c .before .before .before .before .before .before .cause .given .1) (rw (← (c .before .before .before .cause-number .ensures)) (c .before .before .put2 .ensures))
+returns-2 c =
+    let c3 = c .before .before .before in
+    let c6 = c3 .before .before .before in
+    let c8 = c6 .before .before in
+    answers _ _ (c8 .next .ensures) (c6 .cause .given .1) (rw (← (c3 .cause-number .ensures)) (c .before .before .put2 .ensures))
 
 same-length-3 : tie.Need-same-length-3
 same-length-3 c = search needs
 
 returns-3 : tie.Need-returns-3
-returns-3 c = answers-token _ _ _ _ _ (c .before .before .before .before .before .before .before .before .before .before .next .ensures) (c .before .before .before .before .before .before .before .before .kind .given .1) (c .before .before .before .before .before .kind2 .given .1) (c .before .before .put3 .ensures)
+returns-3 c =
+    let c5 = c .before .before .before .before .before in
+    let c8 = c5 .before .before .before in
+    let c10 = c8 .before .before in
+    answers-token _ _ _ _ _ (c10 .next .ensures) (c8 .kind .given .1) (c5 .kind2 .given .1) (c .before .before .put3 .ensures)
 
 same-length-4 : tie.Need-same-length-4
 same-length-4 c = search needs
 
 returns-4 : tie.Need-returns-4
-returns-4 c = answers-token _ _ _ _ _ (c .before .before .before .before .before .before .before .before .before .before .next .ensures) (c .before .before .before .before .before .before .before .before .kind .given .1) (c .before .before .before .before .before .kind3 .given .1) (c .before .before .put4 .ensures)
+returns-4 c =
+    let c5 = c .before .before .before .before .before in
+    let c8 = c5 .before .before .before in
+    let c10 = c8 .before .before in
+    answers-token _ _ _ _ _ (c10 .next .ensures) (c8 .kind .given .1) (c5 .kind3 .given .1) (c .before .before .put4 .ensures)
 
 same-length-5 : tie.Need-same-length-5
 same-length-5 c = search needs
 
 returns-5 : tie.Need-returns-5
-returns-5 c = answers-token _ _ _ _ _ (c .before .before .before .before .before .before .before .before .before .before .next .ensures) (c .before .before .before .before .before .before .before .before .kind .given .1) (c .before .before .before .before .before .kind4 .given .1) (c .before .before .put5 .ensures)
+returns-5 c =
+    let c5 = c .before .before .before .before .before in
+    let c8 = c5 .before .before .before in
+    let c10 = c8 .before .before in
+    answers-token _ _ _ _ _ (c10 .next .ensures) (c8 .kind .given .1) (c5 .kind4 .given .1) (c .before .before .put5 .ensures)
 
 same-length-6 : tie.Need-same-length-6
 same-length-6 c = search needs
 
 returns-6 : tie.Need-returns-6
-returns-6 c = answers-token _ _ _ _ _ (c .before .before .before .before .before .before .before .before .before .before .next .ensures) (c .before .before .before .before .before .before .before .before .kind .given .1) (c .before .before .before .before .before .kind5 .given .1) (c .before .before .put6 .ensures)
+returns-6 c =
+    let c5 = c .before .before .before .before .before in
+    let c8 = c5 .before .before .before in
+    let c10 = c8 .before .before in
+    answers-token _ _ _ _ _ (c10 .next .ensures) (c8 .kind .given .1) (c5 .kind5 .given .1) (c .before .before .put6 .ensures)
 
 same-length-7 : tie.Need-same-length-7
 same-length-7 c = search needs
 
 returns-7 : tie.Need-returns-7
-returns-7 c = answers-token _ _ _ _ _ (c .before .before .before .before .before .before .before .before .before .before .next .ensures) (c .before .before .before .before .before .before .before .before .kind .given .1) (c .before .before .before .before .before .kind6 .given .1) (c .before .before .put7 .ensures)
+returns-7 c =
+    let c5 = c .before .before .before .before .before in
+    let c8 = c5 .before .before .before in
+    let c10 = c8 .before .before in
+    answers-token _ _ _ _ _ (c10 .next .ensures) (c8 .kind .given .1) (c5 .kind6 .given .1) (c .before .before .put7 .ensures)
 
 pub lexer-next-spec : {M : Type 1} → statement M
 lexer-next-spec =

@@ -20,7 +20,9 @@ same-length : tie.Need-same-length
 same-length c = search needs
 
 returns : tie.Need-returns
-returns c = (ranges-say _ _ _ (c .before .before .before .before .before .parse-set-ranges .ensures .0) (c .before .n .given .1), (c .before .before .before .before .before .parse-set-ranges .ensures .1))
+returns c =
+    let c5 = c .before .before .before .before .before in
+    (ranges-say _ _ _ (c5 .parse-set-ranges .ensures .0) (c .before .n .given .1), (c5 .parse-set-ranges .ensures .1))
 
 same-length-2 : tie.Need-same-length-2
 same-length-2 c = search needs

@@ -25,7 +25,9 @@ slice-reshare-prefix-print : tie.Need-slice-reshare-prefix-print
 slice-reshare-prefix-print c = of-bytes (c .before .before .before .before .before .read-all .result) (c .before .before .before .before .before .read-all .ensures) (c .before .n .given .1)
 
 slice-aggregate-print : tie.Need-slice-aggregate-print
-slice-aggregate-print c = sym (length-take-le _ _ (of-bytes (c .before .before .before .before .before .before .read-all .result) (c .before .before .before .before .before .before .read-all .ensures) (c .before .before .n .given .1)))
+slice-aggregate-print c =
+    let c6 = c .before .before .before .before .before .before in
+    sym (length-take-le _ _ (of-bytes (c6 .read-all .result) (c6 .read-all .ensures) (c .before .before .n .given .1)))
 
 print-requires : tie.Need-print-requires
 print-requires c κs = search needs

@@ -21,7 +21,11 @@ same-length c = search needs
 
 returns : tie.Need-returns
 unfolding quoted
-returns c = rw (quoted-yes _ _ (sym (c .before .before .before .before .before .before .before .before .before .is-special .ensures) ∙ c .before .before .before .before .before .before .before .before .if1 .taken)) (adds-then (c .before .before .before .before .before .before .put-byte .ensures) (c .before .before .put-byte2 .ensures))
+returns c =
+    let c6 = c .before .before .before .before .before .before in
+    let c8 = c6 .before .before in
+    let c9 = c8 .before in
+    rw (quoted-yes _ _ (sym (c9 .is-special .ensures) ∙ c8 .if1 .taken)) (adds-then (c6 .put-byte .ensures) (c .before .before .put-byte2 .ensures))
 
 put-byte-requires-3 : tie.Need-put-byte-requires-3
 put-byte-requires-3 c κs = search needs

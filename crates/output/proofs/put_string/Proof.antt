@@ -51,7 +51,10 @@ put-byte-requires-2 : tie.Need-put-byte-requires-2 Inv-loop μ-loop
 put-byte-requires-2 c κs = omega (arith, c .before .before .before .before .before .put-byte .ensures .counts)
 
 same-length : tie.Need-same-length Inv-loop μ-loop
-same-length c = c .before .before .put-byte2 .ensures .same ∙ c .before .before .before .before .before .loop .inv .2 .same ∙ c .before .before .before .before .before .before .before .before .put-byte .ensures .same
+same-length c =
+    let c5 = c .before .before .before .before .before in
+    let c8 = c5 .before .before .before in
+    c .before .before .put-byte2 .ensures .same ∙ c5 .loop .inv .2 .same ∙ c8 .put-byte .ensures .same
 
 returns : tie.Need-returns Inv-loop μ-loop
 returns c =

@@ -32,13 +32,20 @@ put-requires : tie.Need-put-requires
 put-requires c κs = search needs
 
 add-result : tie.Need-add-result
-add-result c = omega (arith, c .before .before .before .before .before .before .before .before .put-numbered .ensures .counts, numbered-few (letters " column ") (c .before .before .before .before .before .before .before .before .before .before .before .before .args .column) [], c .before .before .put .ensures .counts)
+add-result c =
+    let c8 = c .before .before .before .before .before .before .before .before in
+    let c12 = c8 .before .before .before .before in
+    omega (arith, c8 .put-numbered .ensures .counts, numbered-few (letters " column ") (c12 .args .column) [], c .before .before .put .ensures .counts)
 
 same-length : tie.Need-same-length
 same-length c = search needs
 
 returns : tie.Need-returns
-returns c = numbered-then (letters " column ") (c .before .before .before .before .before .before .before .before .before .before .before .before .args .column) (letters "\n") (c .before .before .before .before .before .before .before .before .put-numbered .ensures) (c .before .before .before .before .before .upto .ensures) (c .before .before .put .ensures)
+returns c =
+    let c5 = c .before .before .before .before .before in
+    let c8 = c5 .before .before .before in
+    let c12 = c8 .before .before .before .before in
+    numbered-then (letters " column ") (c12 .args .column) (letters "\n") (c8 .put-numbered .ensures) (c5 .upto .ensures) (c .before .before .put .ensures)
 
 pub put-column-spec : {M : Type 1} → statement M
 put-column-spec =

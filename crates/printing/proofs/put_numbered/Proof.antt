@@ -26,7 +26,10 @@ put-decimal-requires : tie.Need-put-decimal-requires
 put-decimal-requires c κs = search needs
 
 add-result : tie.Need-add-result
-add-result c = omega (arith, c .before .before .before .before .before .before .before .put .ensures .counts, c .before .before .put-decimal .ensures .counts, numbered-few [] (c .before .before .before .before .before .before .before .before .before .before .before .args .v) [])
+add-result c =
+    let c7 = c .before .before .before .before .before .before .before in
+    let c11 = c7 .before .before .before .before in
+    omega (arith, c7 .put .ensures .counts, c .before .before .put-decimal .ensures .counts, numbered-few [] (c11 .args .v) [])
 
 same-length : tie.Need-same-length
 same-length c = search needs

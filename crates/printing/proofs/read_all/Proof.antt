@@ -48,7 +48,10 @@ returns-2 : tie.Need-returns-2 Inv-loop μ-loop
 returns-2 c = search needs
 
 add-n : tie.Need-add-n Inv-loop μ-loop
-add-n c = omega (arith, rest-within (c .before .before .before .before .before .before .read-some .result) (c .before .before .before .before .before .before .before .before .before .loop .buf) (c .before .before .before .before .before .before .read-some .ensures) (c .before .before .more .given .1) (c .before .before .before .before .before .before .before .before .before .loop .inv .1))
+add-n c =
+    let c6 = c .before .before .before .before .before .before in
+    let c9 = c6 .before .before .before in
+    omega (arith, rest-within (c6 .read-some .result) (c9 .loop .buf) (c6 .read-some .ensures) (c .before .before .more .given .1) (c9 .loop .inv .1))
 
 loop-less : tie.Need-loop-less Inv-loop μ-loop
 loop-less c = search needs

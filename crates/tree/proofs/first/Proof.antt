@@ -38,7 +38,10 @@ loop-less : tie.Need-loop-less Inv-loop μ-loop
 loop-less c = omega arith
 
 loop-again : tie.Need-loop-again Inv-loop μ-loop
-loop-again c = (omega arith, rw (c .wide .ensures, c .before .word .ensures) (sym (first-step _ _ _ (c .before .before .before .loop-test .taken) (c .before .before .if1 .left)) ∙ c .before .before .before .before .loop .inv .1))
+loop-again c =
+    let c3 = c .before .before .before in
+    let c4 = c3 .before in
+    (omega arith, rw (c .wide .ensures, c .before .word .ensures) (sym (first-step _ _ _ (c3 .loop-test .taken) (c .before .before .if1 .left)) ∙ c4 .loop .inv .1))
 
 returns-2 : tie.Need-returns-2 Inv-loop μ-loop
 returns-2 c = let e : c .before .loop .need ≡ 0 = omega arith in sym (first-none _ _) ∙ rw e at (c .before .loop .inv .1)

@@ -61,7 +61,9 @@ wide-requires-2 c κs = tt
 
 add-at : tie.Need-add-at Inv-loop μ-loop
 add-at c =
-    omega (arith, c .wide2 .ensures, c .before .word2 .ensures, record-inside _ _ _ _ (sym (c .before .before .before .record-fits .ensures) ∙ not-false _ (c .before .before .if3 .left)) (c .before .before .before .before .before .before .before .before .loop .inv .1) .1)
+    let c3 = c .before .before .before in
+    let c8 = c3 .before .before .before .before .before in
+    omega (arith, c .wide2 .ensures, c .before .word2 .ensures, record-inside _ _ _ _ (sym (c3 .record-fits .ensures) ∙ not-false _ (c .before .before .if3 .left)) (c8 .loop .inv .1) .1)
 
 add-i : tie.Need-add-i Inv-loop μ-loop
 add-i c = omega (arith, c .before .before .before .before .before .before .before .before .before .before .count .ensures)
@@ -82,7 +84,9 @@ loop-again c =
 
 returns-4 : tie.Need-returns-4 Inv-loop μ-loop
 returns-4 c =
-    no-tree _ _ _ (c .before .before .before .before .count .result) (sym (c .before .before .before .if1 .left)) (more-left _ _ (c .before .before .before .before .count .result - c .before .before .loop .i) (omega arith) (c .before .before .loop .inv .2) (c .if4 .taken))
+    let c3 = c .before .before .before in
+    let c4 = c3 .before in
+    no-tree _ _ _ (c4 .count .result) (sym (c3 .if1 .left)) (more-left _ _ (c4 .count .result - c .before .before .loop .i) (omega arith) (c .before .before .loop .inv .2) (c .if4 .taken))
 
 sub-word : tie.Need-sub-word Inv-loop μ-loop
 sub-word c = omega (arith, grown-few (c .before .before .loop .inv .2))
@@ -95,8 +99,11 @@ is-root-requires c κs = tt
 
 returns-5 : tie.Need-returns-5 Inv-loop μ-loop
 returns-5 c =
+    let c4 = c .before .before .before .before in
+    let c5 = c4 .before in
+    let c6 = c5 .before in
     rw (c .before .word3 .ensures) at (c .is-root .ensures)
-    ∙ rooted-last _ _ _ (c .before .before .before .before .before .before .count .result) (sym (c .before .before .before .before .before .if1 .left)) (c .before .before .before .before .before .before .count .result - c .before .before .before .before .loop .i) (omega arith) (omega arith) (c .before .before .before .before .loop .inv .2) (c .before .before .if4 .left)
+    ∙ rooted-last _ _ _ (c6 .count .result) (sym (c5 .if1 .left)) (c6 .count .result - c4 .loop .i) (omega arith) (omega arith) (c4 .loop .inv .2) (c .before .before .if4 .left)
 
 pub is-tree-spec : {M : Type 1} → statement M
 is-tree-spec =

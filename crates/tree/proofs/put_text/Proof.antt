@@ -35,7 +35,9 @@ add-texts : tie.Need-add-texts Inv-loop μ-loop
 add-texts c = omega arith
 
 slice-write-texts : tie.Need-slice-write-texts Inv-loop μ-loop
-slice-write-texts c = omega (arith, ap length (c .before .before .loop .inv .2) ∙ length-paste (c .before .before .before .before .before .args .texts .now) (c .before .before .before .before .before .args .at) (c .before .before .before .before .before .args .text .now) (c .before .before .loop .i) (omega arith) (omega arith))
+slice-write-texts c =
+    let c5 = c .before .before .before .before .before in
+    omega (arith, ap length (c .before .before .loop .inv .2) ∙ length-paste (c5 .args .texts .now) (c5 .args .at) (c5 .args .text .now) (c .before .before .loop .i) (omega arith) (omega arith))
 
 add-i : tie.Need-add-i Inv-loop μ-loop
 add-i c = omega arith
@@ -44,13 +46,19 @@ loop-less : tie.Need-loop-less Inv-loop μ-loop
 loop-less c = omega arith
 
 loop-again : tie.Need-loop-again Inv-loop μ-loop
-loop-again c = (omega arith, c .before .before .loop .inv .1, rw (c .before .before .loop .inv .2, add-one) (paste-suc (c .before .before .before .before .before .args .texts .now) (c .before .before .before .before .before .args .at) (c .before .before .before .before .before .args .text .now) (c .before .before .loop .i) 0 (omega arith) (omega arith)))
+loop-again c =
+    let c5 = c .before .before .before .before .before in
+    (omega arith, c .before .before .loop .inv .1, rw (c .before .before .loop .inv .2, add-one) (paste-suc (c5 .args .texts .now) (c5 .args .at) (c5 .args .text .now) (c .before .before .loop .i) 0 (omega arith) (omega arith)))
 
 same-length : tie.Need-same-length Inv-loop μ-loop
-same-length c = ap length (c .before .loop .inv .2) ∙ length-paste (c .before .before .before .before .args .texts .now) (c .before .before .before .before .args .at) (c .before .before .before .before .args .text .now) (c .before .loop .i) (omega arith) (omega arith)
+same-length c =
+    let c4 = c .before .before .before .before in
+    ap length (c .before .loop .inv .2) ∙ length-paste (c4 .args .texts .now) (c4 .args .at) (c4 .args .text .now) (c .before .loop .i) (omega arith) (omega arith)
 
 returns-3 : tie.Need-returns-3 Inv-loop μ-loop
-returns-3 c = (refl, c .before .loop .inv .2 ∙ pasted (c .before .before .before .before .args .texts .now) (c .before .before .before .before .args .text .now) (c .before .before .before .before .args .at) (c .before .loop .i) (omega arith) (omega arith))
+returns-3 c =
+    let c4 = c .before .before .before .before in
+    (refl, c .before .loop .inv .2 ∙ pasted (c4 .args .texts .now) (c4 .args .text .now) (c4 .args .at) (c .before .loop .i) (omega arith) (omega arith))
 
 pub put-text-spec : {M : Type 1} → statement M
 put-text-spec =

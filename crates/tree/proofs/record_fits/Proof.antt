@@ -30,7 +30,9 @@ values-fit-requires c κs = search needs
 returns-2 : tie.Need-returns-2
 unfolding recordFits
 returns-2 c =
-    rw (← c .before .before .before .before .before .before .word .ensures, ← c .before .before .before .word2 .ensures, ← c .before .before .word3 .ensures, sym (c .before .values-fit .ensures) ∙ not-true _ (c .if2 .taken)) (simp and-false)
+    let c3 = c .before .before .before in
+    let c6 = c3 .before .before .before in
+    rw (← c6 .word .ensures, ← c3 .word2 .ensures, ← c .before .before .word3 .ensures, sym (c .before .values-fit .ensures) ∙ not-true _ (c .if2 .taken)) (simp and-false)
 
 text-fits-requires : tie.Need-text-fits-requires
 text-fits-requires c κs = search needs

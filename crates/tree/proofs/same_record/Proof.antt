@@ -30,7 +30,9 @@ same-value-requires c κs = search needs
 returns-2 : tie.Need-returns-2
 unfolding sameNode
 returns-2 c =
-    rw (← c .before .before .before .before .before .before .word .ensures, ← c .before .before .before .word3 .ensures, ← c .before .before .word4 .ensures, sym (c .before .same-value .ensures) ∙ not-true _ (c .if2 .taken)) (simp and-false)
+    let c3 = c .before .before .before in
+    let c6 = c3 .before .before .before in
+    rw (← c6 .word .ensures, ← c3 .word3 .ensures, ← c .before .before .word4 .ensures, sym (c .before .same-value .ensures) ∙ not-true _ (c .if2 .taken)) (simp and-false)
 
 word-requires-5 : tie.Need-word-requires-5
 word-requires-5 c κs = search needs

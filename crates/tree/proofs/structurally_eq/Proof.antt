@@ -28,11 +28,14 @@ is-tree-requires-2 c κs = tt
 
 returns-2 : tie.Need-returns-2 Inv-loop μ-loop
 returns-2 c =
-    other-not (tree-of isExpression _ _ (sym (not-false _ (c .before .before .if1 .left)) ∙ c .before .before .before .is-tree .ensures)) _ _ (tree-not isExpression _ _ (sym (not-true _ (c .if2 .taken)) ∙ c .before .is-tree2 .ensures))
+    let c3 = c .before .before .before in
+    other-not (tree-of isExpression _ _ (sym (not-false _ (c .before .before .if1 .left)) ∙ c3 .is-tree .ensures)) _ _ (tree-not isExpression _ _ (sym (not-true _ (c .if2 .taken)) ∙ c .before .is-tree2 .ensures))
 
 returns-3 : tie.Need-returns-3 Inv-loop μ-loop
 returns-3 c =
-    unequal (tree-of isExpression _ _ (sym (not-false _ (c .before .before .before .if1 .left)) ∙ c .before .before .before .before .is-tree .ensures)) (tree-of isExpression _ _ (sym (not-false _ (c .before .if2 .left)) ∙ c .before .before .is-tree2 .ensures)) (c .if3 .taken)
+    let c3 = c .before .before .before in
+    let c4 = c3 .before in
+    unequal (tree-of isExpression _ _ (sym (not-false _ (c3 .if1 .left)) ∙ c4 .is-tree .ensures)) (tree-of isExpression _ _ (sym (not-false _ (c .before .if2 .left)) ∙ c .before .before .is-tree2 .ensures)) (c .if3 .taken)
 
 count-requires : tie.Need-count-requires Inv-loop μ-loop
 count-requires c κs = tt

@@ -22,7 +22,10 @@ wide-requires-2 c κs = search needs
 
 returns : tie.Need-returns
 unfolding textFits
-returns c = rw (← (c .before .before .before .wide .ensures ∙ c .before .before .before .before .word .ensures), eq-eqb _ _ (c .if1 .taken), ← (c .before .wide2 .ensures ∙ c .before .before .word2 .ensures))
+returns c =
+    let c3 = c .before .before .before in
+    let c4 = c3 .before in
+    rw (← (c3 .wide .ensures ∙ c4 .word .ensures), eq-eqb _ _ (c .if1 .taken), ← (c .before .wide2 .ensures ∙ c .before .before .word2 .ensures))
 
 word-requires-3 : tie.Need-word-requires-3
 word-requires-3 c κs = search needs
@@ -33,7 +36,10 @@ has-text-requires c κs = search needs
 returns-2 : tie.Need-returns-2
 unfolding textFits
 returns-2 c =
-    rw (← (c .before .before .before .before .before .before .wide .ensures ∙ c .before .before .before .before .before .before .before .word .ensures), ne-eqb _ _ (c .before .before .before .if1 .left), ← c .before .before .word3 .ensures, sym (c .before .has-text .ensures) ∙ not-true _ (c .if2 .taken))
+    let c3 = c .before .before .before in
+    let c6 = c3 .before .before .before in
+    let c7 = c6 .before in
+    rw (← (c6 .wide .ensures ∙ c7 .word .ensures), ne-eqb _ _ (c3 .if1 .left), ← c .before .before .word3 .ensures, sym (c .before .has-text .ensures) ∙ not-true _ (c .if2 .taken))
 
 returns-3 : tie.Need-returns-3
 unfolding textFits

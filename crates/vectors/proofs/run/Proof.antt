@@ -25,7 +25,9 @@ slice-reshare-prefix-replay-all : tie.Need-slice-reshare-prefix-replay-all
 slice-reshare-prefix-replay-all c = of-bytes (c .before .before .before .before .before .read-all .result) (c .before .before .before .before .before .read-all .ensures) (c .before .n .given .1)
 
 slice-aggregate-replay-all : tie.Need-slice-aggregate-replay-all
-slice-aggregate-replay-all c = sym (length-take-le _ _ (of-bytes (c .before .before .before .before .before .before .read-all .result) (c .before .before .before .before .before .before .read-all .ensures) (c .before .before .n .given .1)))
+slice-aggregate-replay-all c =
+    let c6 = c .before .before .before .before .before .before in
+    sym (length-take-le _ _ (of-bytes (c6 .read-all .result) (c6 .read-all .ensures) (c .before .before .n .given .1)))
 
 slice-aggregate-replay-all-2 : tie.Need-slice-aggregate-replay-all-2
 slice-aggregate-replay-all-2 c = search needs

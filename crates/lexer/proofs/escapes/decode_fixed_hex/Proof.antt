@@ -36,18 +36,26 @@ returns c =
 
 mul-v : tie.Need-mul-v Inv-loop μ-loop
 mul-v c =
-    let g = (digit-at _ _ _ _ (c .before .before .before .before .peek .ensures) (sym (c .before .d .given .1) ∙ (c .before .before .before .hex-digit .ensures))) in
+    let c3 = c .before .before .before in
+    let c4 = c3 .before in
+    let c5 = c4 .before in
+    let c6 = c5 .before in
+    let g = (digit-at _ _ _ _ (c4 .peek .ensures) (sym (c .before .d .given .1) ∙ (c3 .hex-digit .ensures))) in
     let i = g .next .inside in
     let z = g .small in
-    let q = greater _ _ _ (c .before .before .before .before .before .loop-test .taken) (c .before .before .before .before .before .before .loop .inv .0) (c .before .before .before .before .before .before .loop .inv .1) z in
+    let q = greater _ _ _ (c5 .loop-test .taken) (c6 .loop .inv .0) (c6 .loop .inv .1) z in
     omega arith
 
 add-v : tie.Need-add-v Inv-loop μ-loop
 add-v c =
-    let g = (digit-at _ _ _ _ (c .before .before .before .before .peek .ensures) (sym (c .before .d .given .1) ∙ (c .before .before .before .hex-digit .ensures))) in
+    let c3 = c .before .before .before in
+    let c4 = c3 .before in
+    let c5 = c4 .before in
+    let c6 = c5 .before in
+    let g = (digit-at _ _ _ _ (c4 .peek .ensures) (sym (c .before .d .given .1) ∙ (c3 .hex-digit .ensures))) in
     let i = g .next .inside in
     let z = g .small in
-    let q = greater _ _ _ (c .before .before .before .before .before .loop-test .taken) (c .before .before .before .before .before .before .loop .inv .0) (c .before .before .before .before .before .before .loop .inv .1) z in
+    let q = greater _ _ _ (c5 .loop-test .taken) (c6 .loop .inv .0) (c6 .loop .inv .1) z in
     omega arith
 
 add-at : tie.Need-add-at Inv-loop μ-loop
@@ -65,12 +73,16 @@ loop-less c = omega arith
 
 loop-again : tie.Need-loop-again Inv-loop μ-loop
 loop-again c =
-    let g = (digit-at _ _ _ _ (c .before .before .before .before .peek .ensures) (sym (c .before .d .given .1) ∙ (c .before .before .before .hex-digit .ensures))) in
+    let c3 = c .before .before .before in
+    let c4 = c3 .before in
+    let c5 = c4 .before in
+    let c6 = c5 .before in
+    let g = (digit-at _ _ _ _ (c4 .peek .ensures) (sym (c .before .d .given .1) ∙ (c3 .hex-digit .ensures))) in
     let i = g .next .inside in
     let z = g .small in (
-      omega (arith, (c .before .before .before .before .before .before .loop .inv .0)),
-      greater _ _ _ (c .before .before .before .before .before .loop-test .taken) (c .before .before .before .before .before .before .loop .inv .0) (c .before .before .before .before .before .before .loop .inv .1) z .0,
-      sym (fixed-step _ _ _ _ _ _ (c .before .before .before .before .before .loop-test .taken) g) ∙ (c .before .before .before .before .before .before .loop .inv .2),
+      omega (arith, (c6 .loop .inv .0)),
+      greater _ _ _ (c5 .loop-test .taken) (c6 .loop .inv .0) (c6 .loop .inv .1) z .0,
+      sym (fixed-step _ _ _ _ _ _ (c5 .loop-test .taken) g) ∙ (c6 .loop .inv .2),
     )
 
 is-scalar-requires : tie.Need-is-scalar-requires Inv-loop μ-loop

@@ -63,8 +63,11 @@ add-v c =
 
 returns-4 : tie.Need-returns-4 Inv-loop μ-loop
 returns-4 c =
-    sym (until-step _ _ _ _ _ (digit-at _ _ _ _ (c .before .before .before .before .before .before .peek .ensures) (sym (c .before .before .d .given .1) ∙ (c .before .before .before .before .hex-digit .ensures))) ∙ until-big _ _ _ (c .if3 .taken))
-    ∙ (c .before .before .before .before .before .before .before .loop .inv .1)
+    let c4 = c .before .before .before .before in
+    let c6 = c4 .before .before in
+    let c7 = c6 .before in
+    sym (until-step _ _ _ _ _ (digit-at _ _ _ _ (c6 .peek .ensures) (sym (c .before .before .d .given .1) ∙ (c4 .hex-digit .ensures))) ∙ until-big _ _ _ (c .if3 .taken))
+    ∙ (c7 .loop .inv .1)
 
 add-at : tie.Need-add-at Inv-loop μ-loop
 add-at c =

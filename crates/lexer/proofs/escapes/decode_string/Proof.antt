@@ -50,7 +50,11 @@ loop-less c =
     omega arith
 
 loop-again : tie.Need-loop-again Inv-loop μ-loop
-loop-again c = step _ _ _ _ _ (c .before .before .before .before .before .before .before .before .loop .inv) _ _ _ _ (value-on _ _ _ _ _ _ (c .before .before .before .before .before .before .before .set-atom .ensures) (c .before .before .before .before .before .c .given .1)) (c .before .before .put .ensures)
+loop-again c =
+    let c5 = c .before .before .before .before .before in
+    let c7 = c5 .before .before in
+    let c8 = c7 .before in
+    step _ _ _ _ _ (c8 .loop .inv) _ _ _ _ (value-on _ _ _ _ _ _ (c7 .set-atom .ensures) (c5 .c .given .1)) (c .before .before .put .ensures)
 
 pub decode-string-spec : {M : Type 1} → statement M
 decode-string-spec =

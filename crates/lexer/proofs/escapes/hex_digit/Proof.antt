@@ -34,11 +34,15 @@ sub-t5 c = search needs
 
 returns-6 : tie.Need-returns-6
 unfolding hexDigit
-returns-6 c = let x = (c .before .before .before .before .before .before .args .c) in rw (within-hi 0x30 0x39 x (omega arith), within-hi 0x41 0x46 x (omega arith), within-yes 0x61 0x66 x (omega arith) (omega arith))
+returns-6 c =
+    let c6 = c .before .before .before .before .before .before in
+    let x = (c6 .args .c) in rw (within-hi 0x30 0x39 x (omega arith), within-hi 0x41 0x46 x (omega arith), within-yes 0x61 0x66 x (omega arith) (omega arith))
 
 returns-7 : tie.Need-returns-7
 unfolding hexDigit
-returns-7 c = let x = (c .before .before .before .before .before .before .args .c) in rw (within-hi 0x30 0x39 x (omega arith), within-hi 0x41 0x46 x (omega arith), within-hi 0x61 0x66 x (omega arith))
+returns-7 c =
+    let c6 = c .before .before .before .before .before .before in
+    let x = (c6 .args .c) in rw (within-hi 0x30 0x39 x (omega arith), within-hi 0x41 0x46 x (omega arith), within-hi 0x61 0x66 x (omega arith))
 
 pub hex-digit-spec : {M : Type 1} → statement M
 hex-digit-spec =

@@ -35,7 +35,11 @@ spells-requires-3 c κs = search needs
 returns-3 : tie.Need-returns-3
 unfolding classNamed
 returns-3 c =
-    rw (sym (c .before .before .before .before .before .before .before .spells .ensures) ∙ (c .before .before .before .before .before .before .if1 .left), sym (c .before .before .before .before .spells2 .ensures) ∙ (c .before .before .before .if2 .left), sym (c .before .spells3 .ensures) ∙ (c .if3 .taken))
+    let c3 = c .before .before .before in
+    let c4 = c3 .before in
+    let c6 = c4 .before .before in
+    let c7 = c6 .before in
+    rw (sym (c7 .spells .ensures) ∙ (c6 .if1 .left), sym (c4 .spells2 .ensures) ∙ (c3 .if2 .left), sym (c .before .spells3 .ensures) ∙ (c .if3 .taken))
 
 slice-aggregate-spells-4 : tie.Need-slice-aggregate-spells-4
 slice-aggregate-spells-4 c = search needs

@@ -40,7 +40,11 @@ enum-known-u c = search needs
 
 parse-names-requires : tie.Need-parse-names-requires
 unfolding every
-parse-names-requires c κs = ready-step (c .before .before .before .before .before .before .before .before .before .before .pre) ((word-yes _ "conflict" (c .before .before .before .before .before .before .before .before .before .before .args .token) refl _ (c .before .before .before .before .before .eat-at .ensures) (c .before .before .before .before .before .before .before .before .before .before .pre .lies) (c .before .before .before .u .given .1)) .1)
+parse-names-requires c κs =
+    let c3 = c .before .before .before in
+    let c5 = c3 .before .before in
+    let c10 = c5 .before .before .before .before .before in
+    ready-step (c10 .pre) ((word-yes _ "conflict" (c10 .args .token) refl _ (c5 .eat-at .ensures) (c10 .pre .lies) (c3 .u .given .1)) .1)
 
 enum-known-cause-2 : tie.Need-enum-known-cause-2
 enum-known-cause-2 c = search needs
@@ -50,7 +54,10 @@ enum-known-v c = search needs
 
 returns : tie.Need-returns
 unfolding every
-returns c = λ before h. external-refused before _ (word-not _ "conflict" (c .before .before .before .before .before .before .before .before .args .token) refl _ (c .before .before .before .eat-at .ensures) (c .before .cause .given .1))
+returns c =
+    let c3 = c .before .before .before in
+    let c8 = c3 .before .before .before .before .before in
+    λ before h. external-refused before _ (word-not _ "conflict" (c8 .args .token) refl _ (c3 .eat-at .ensures) (c .before .cause .given .1))
 
 same-length : tie.Need-same-length
 same-length c = search needs
@@ -60,7 +67,12 @@ same-length-2 c = search needs
 
 returns-2 : tie.Need-returns-2
 unfolding every
-returns-2 c = joined ExternalTokens _ (parseNamedNode (stream _ _)) (namedNodeBranch) ExternalMember.token 13 _ _ _ _ _ _ (λ before h. external-token before _ (word-no _ "conflict" (c .before .before .before .before .before .before .before .before .before .before .before .before .before .before .before .args .token) refl _ (c .before .before .before .before .before .before .before .before .before .before .eat-at .ensures) (c .before .before .before .before .before .before .before .before .enum-told .given .1))) (λ x. refl) (λ x. refl) (onward-here _ (c .before .before .before .before .before .before .before .before .before .before .before .before .before .before .before .args .token) (c .before .before .before .before .before .before .before .before .before .before .before .before .before .before .before .pre .lies)) (c .before .before .before .before .before .parse-named-node .result) (c .one .ensures) (c .before .before .before .before .before .parse-named-node .ensures)
+returns-2 c =
+    let c5 = c .before .before .before .before .before in
+    let c8 = c5 .before .before .before in
+    let c10 = c8 .before .before in
+    let c15 = c10 .before .before .before .before .before in
+    joined ExternalTokens _ (parseNamedNode (stream _ _)) (namedNodeBranch) ExternalMember.token 13 _ _ _ _ _ _ (λ before h. external-token before _ (word-no _ "conflict" (c15 .args .token) refl _ (c10 .eat-at .ensures) (c8 .enum-told .given .1))) (λ x. refl) (λ x. refl) (onward-here _ (c15 .args .token) (c15 .pre .lies)) (c5 .parse-named-node .result) (c .one .ensures) (c5 .parse-named-node .ensures)
 
 same-length-3 : tie.Need-same-length-3
 same-length-3 c = search needs
@@ -70,7 +82,12 @@ same-length-4 c = search needs
 
 returns-3 : tie.Need-returns-3
 unfolding every
-returns-3 c = λ before h. external-list before _ ((word-yes _ "conflict" (c .before .before .before .before .before .before .before .before .before .before .before .before .before .before .before .before .before .before .args .token) refl _ (c .before .before .before .before .before .before .before .before .before .before .before .before .before .eat-at .ensures) (c .before .before .before .before .before .before .before .before .before .before .before .before .before .before .before .before .before .before .pre .lies) (c .before .before .before .before .before .before .before .before .before .before .before .u .given .1)) .0) (listed-not _ _ _ _ _ _ _ _ _ (c .before .before .before .before .before .before .before .parse-names .ensures) (c .before .cause2 .given .1))
+returns-3 c =
+    let c7 = c .before .before .before .before .before .before .before in
+    let c11 = c7 .before .before .before .before in
+    let c13 = c11 .before .before in
+    let c18 = c13 .before .before .before .before .before in
+    λ before h. external-list before _ ((word-yes _ "conflict" (c18 .args .token) refl _ (c13 .eat-at .ensures) (c18 .pre .lies) (c11 .u .given .1)) .0) (listed-not _ _ _ _ _ _ _ _ _ (c7 .parse-names .ensures) (c .before .cause2 .given .1))
 
 same-length-5 : tie.Need-same-length-5
 same-length-5 c = search needs
@@ -80,7 +97,12 @@ same-length-6 c = search needs
 
 returns-4 : tie.Need-returns-4
 unfolding every
-returns-4 c = let y = word-yes _ "conflict" (c .before .before .before .before .before .before .before .before .before .before .before .before .before .before .before .before .before .before .args .token) refl _ (c .before .before .before .before .before .before .before .before .before .before .before .before .before .eat-at .ensures) (c .before .before .before .before .before .before .before .before .before .before .before .before .before .before .before .before .before .before .pre .lies) (c .before .before .before .before .before .before .before .before .before .before .before .u .given .1) in joined-names (y .0) (y .1) (listed _ _ _ _ _ _ _ _ _ (c .before .before .before .before .before .before .before .parse-names .ensures) (c .before .v .given .1))
+returns-4 c =
+    let c7 = c .before .before .before .before .before .before .before in
+    let c11 = c7 .before .before .before .before in
+    let c13 = c11 .before .before in
+    let c18 = c13 .before .before .before .before .before in
+    let y = word-yes _ "conflict" (c18 .args .token) refl _ (c13 .eat-at .ensures) (c18 .pre .lies) (c11 .u .given .1) in joined-names (y .0) (y .1) (listed _ _ _ _ _ _ _ _ _ (c7 .parse-names .ensures) (c .before .v .given .1))
 
 pub external-member-spec : {M : Type 1} → statement M
 external-member-spec =

@@ -27,7 +27,11 @@ says-requires c κs = rw (c .before .at .ensures) (at-whole _ (c .before .before
 
 parse-token-precedence-requires : tie.Need-parse-token-precedence-requires
 unfolding every
-parse-token-precedence-requires c κs = (c .before .before .before .before .before .before .before .before .before .pre, says-token "precedence" _ (c .before .before .before .before .before .before .before .before .before .args .token) (at-says "precedence" _ (c .before .before .before .before .before .before .before .before .before .args .token) (c .before .before .before .before .before .at .ensures) (c .before .before .before .says .ensures) refl ∙ (c .before .before .if1 .taken)))
+parse-token-precedence-requires c κs =
+    let c3 = c .before .before .before in
+    let c5 = c3 .before .before in
+    let c9 = c5 .before .before .before .before in
+    (c9 .pre, says-token "precedence" _ (c9 .args .token) (at-says "precedence" _ (c9 .args .token) (c5 .at .ensures) (c3 .says .ensures) refl ∙ (c .before .before .if1 .taken)))
 
 one-requires : tie.Need-one-requires
 one-requires c κs = search needs
@@ -40,7 +44,13 @@ same-length-2 c = search needs
 
 returns : tie.Need-returns
 unfolding every
-returns c = joined LocalTokens _ (parseTokenPrecedence (stream _ _)) (tokenPrecBranch) LocalMember.precedence 9 _ _ _ _ _ _ (λ before h. local-precedence before _ (at-says "precedence" _ (c .before .before .before .before .before .before .before .before .before .before .before .before .before .before .before .args .token) (c .before .before .before .before .before .before .before .before .before .before .before .at .ensures) (c .before .before .before .before .before .before .before .before .before .says .ensures) refl ∙ (c .before .before .before .before .before .before .before .before .if1 .taken))) (λ x. refl) (λ x. refl) (onward-here _ (c .before .before .before .before .before .before .before .before .before .before .before .before .before .before .before .args .token) (c .before .before .before .before .before .before .before .before .before .before .before .before .before .before .before .pre .lies)) (c .before .before .before .before .before .parse-token-precedence .result) (c .one .ensures) (c .before .before .before .before .before .parse-token-precedence .ensures)
+returns c =
+    let c5 = c .before .before .before .before .before in
+    let c8 = c5 .before .before .before in
+    let c9 = c8 .before in
+    let c11 = c9 .before .before in
+    let c15 = c11 .before .before .before .before in
+    joined LocalTokens _ (parseTokenPrecedence (stream _ _)) (tokenPrecBranch) LocalMember.precedence 9 _ _ _ _ _ _ (λ before h. local-precedence before _ (at-says "precedence" _ (c15 .args .token) (c11 .at .ensures) (c9 .says .ensures) refl ∙ (c8 .if1 .taken))) (λ x. refl) (λ x. refl) (onward-here _ (c15 .args .token) (c15 .pre .lies)) (c5 .parse-token-precedence .result) (c .one .ensures) (c5 .parse-token-precedence .ensures)
 
 slice-aggregate-eat-at : tie.Need-slice-aggregate-eat-at
 slice-aggregate-eat-at c = search needs
@@ -65,7 +75,11 @@ enum-known-u c = search needs
 
 parse-named-node-requires : tie.Need-parse-named-node-requires
 unfolding every
-parse-named-node-requires c κs = ready-step (c .before .before .before .before .before .before .before .before .before .before .before .before .before .before .before .pre) ((word-yes _ "else" (c .before .before .before .before .before .before .before .before .before .before .before .before .before .before .before .args .token) refl _ (c .before .before .before .before .before .before .eat-at .ensures) (c .before .before .before .before .before .before .before .before .before .before .before .before .before .before .before .pre .lies) (c .before .before .before .before .u .given .1)) .1)
+parse-named-node-requires c κs =
+    let c4 = c .before .before .before .before in
+    let c6 = c4 .before .before in
+    let c15 = c6 .before .before .before .before .before .before .before .before .before in
+    ready-step (c15 .pre) ((word-yes _ "else" (c15 .args .token) refl _ (c6 .eat-at .ensures) (c15 .pre .lies) (c4 .u .given .1)) .1)
 
 one-requires-3 : tie.Need-one-requires-3
 one-requires-3 c κs = search needs
@@ -78,18 +92,37 @@ same-length-4 c = search needs
 
 returns-2 : tie.Need-returns-2
 unfolding every
-returns-2 c = let y = word-yes _ "else" (c .before .before .before .before .before .before .before .before .before .before .before .before .before .before .before .before .before .before .before .before .before .args .token) refl _ (c .before .before .before .before .before .before .before .before .before .before .before .before .eat-at .ensures) (c .before .before .before .before .before .before .before .before .before .before .before .before .before .before .before .before .before .before .before .before .before .pre .lies) (c .before .before .before .before .before .before .before .before .before .before .u .given .1) in joined LocalTokens _ (parseNamedNode (stream _ _)) (namedNodeBranch) LocalMember.fallback 13 _ _ _ _ _ _ (λ before h. local-fallback before _ (at-says "precedence" _ (c .before .before .before .before .before .before .before .before .before .before .before .before .before .before .before .before .before .before .before .before .before .args .token) (c .before .before .before .before .before .before .before .before .before .before .before .before .before .before .before .before .before .at .ensures) (c .before .before .before .before .before .before .before .before .before .before .before .before .before .before .before .says .ensures) refl ∙ (c .before .before .before .before .before .before .before .before .before .before .before .before .before .before .if1 .left)) (y .0) h (c .before .before .before .before .before .before .before .before .if2 .taken)) (λ x. refl) (λ x. refl) (y .1) (c .before .before .before .before .before .parse-named-node .result) (c .one3 .ensures) (c .before .before .before .before .before .parse-named-node .ensures)
+returns-2 c =
+    let c5 = c .before .before .before .before .before in
+    let c8 = c5 .before .before .before in
+    let c10 = c8 .before .before in
+    let c12 = c10 .before .before in
+    let c14 = c12 .before .before in
+    let c15 = c14 .before in
+    let c17 = c15 .before .before in
+    let c21 = c17 .before .before .before .before in
+    let y = word-yes _ "else" (c21 .args .token) refl _ (c12 .eat-at .ensures) (c21 .pre .lies) (c10 .u .given .1) in joined LocalTokens _ (parseNamedNode (stream _ _)) (namedNodeBranch) LocalMember.fallback 13 _ _ _ _ _ _ (λ before h. local-fallback before _ (at-says "precedence" _ (c21 .args .token) (c17 .at .ensures) (c15 .says .ensures) refl ∙ (c14 .if1 .left)) (y .0) h (c8 .if2 .taken)) (λ x. refl) (λ x. refl) (y .1) (c5 .parse-named-node .result) (c .one3 .ensures) (c5 .parse-named-node .ensures)
 
 parse-rule-requires-2 : tie.Need-parse-rule-requires-2
 unfolding every
-parse-rule-requires-2 c κs = ready-step (c .before .before .before .before .before .before .before .before .before .before .before .before .before .before .before .pre) ((word-yes _ "else" (c .before .before .before .before .before .before .before .before .before .before .before .before .before .before .before .args .token) refl _ (c .before .before .before .before .before .before .eat-at .ensures) (c .before .before .before .before .before .before .before .before .before .before .before .before .before .before .before .pre .lies) (c .before .before .before .before .u .given .1)) .1)
+parse-rule-requires-2 c κs =
+    let c4 = c .before .before .before .before in
+    let c6 = c4 .before .before in
+    let c15 = c6 .before .before .before .before .before .before .before .before .before in
+    ready-step (c15 .pre) ((word-yes _ "else" (c15 .args .token) refl _ (c6 .eat-at .ensures) (c15 .pre .lies) (c4 .u .given .1)) .1)
 
 one-requires-4 : tie.Need-one-requires-4
 one-requires-4 c κs = search needs
 
 returns-3 : tie.Need-returns-3
 unfolding every
-returns-3 c = λ before h. local-refused before _ (at-says "precedence" _ (c .before .before .before .before .before .before .before .before .before .before .before .before .args .token) (c .before .before .before .before .before .before .before .before .at .ensures) (c .before .before .before .before .before .before .says .ensures) refl ∙ (c .before .before .before .before .before .if1 .left)) (word-not _ "else" (c .before .before .before .before .before .before .before .before .before .before .before .before .args .token) refl _ (c .before .before .before .eat-at .ensures) (c .before .cause .given .1))
+returns-3 c =
+    let c3 = c .before .before .before in
+    let c5 = c3 .before .before in
+    let c6 = c5 .before in
+    let c8 = c6 .before .before in
+    let c12 = c8 .before .before .before .before in
+    λ before h. local-refused before _ (at-says "precedence" _ (c12 .args .token) (c8 .at .ensures) (c6 .says .ensures) refl ∙ (c5 .if1 .left)) (word-not _ "else" (c12 .args .token) refl _ (c3 .eat-at .ensures) (c .before .cause .given .1))
 
 same-length-5 : tie.Need-same-length-5
 same-length-5 c = search needs
@@ -99,7 +132,15 @@ same-length-6 c = search needs
 
 returns-4 : tie.Need-returns-4
 unfolding every
-returns-4 c = joined LocalTokens _ (parseRule (stream _ _)) (ruleBranch 3) LocalMember.rule 3 _ _ _ _ _ _ (λ before h. local-rule before _ (at-says "precedence" _ (c .before .before .before .before .before .before .before .before .before .before .before .before .before .before .before .before .before .before .before .args .token) (c .before .before .before .before .before .before .before .before .before .before .before .before .before .before .before .at .ensures) (c .before .before .before .before .before .before .before .before .before .before .before .before .before .says .ensures) refl ∙ (c .before .before .before .before .before .before .before .before .before .before .before .before .if1 .left)) (word-no _ "else" (c .before .before .before .before .before .before .before .before .before .before .before .before .before .before .before .before .before .before .before .args .token) refl _ (c .before .before .before .before .before .before .before .before .before .before .eat-at .ensures) (c .before .before .before .before .before .before .before .before .enum-told .given .1))) (λ x. refl) (λ x. refl) (onward-here _ (c .before .before .before .before .before .before .before .before .before .before .before .before .before .before .before .before .before .before .before .args .token) (c .before .before .before .before .before .before .before .before .before .before .before .before .before .before .before .before .before .before .before .pre .lies)) (c .before .before .before .before .before .parse-rule .result) (c .one2 .ensures) (c .before .before .before .before .before .parse-rule .ensures)
+returns-4 c =
+    let c5 = c .before .before .before .before .before in
+    let c8 = c5 .before .before .before in
+    let c10 = c8 .before .before in
+    let c12 = c10 .before .before in
+    let c13 = c12 .before in
+    let c15 = c13 .before .before in
+    let c19 = c15 .before .before .before .before in
+    joined LocalTokens _ (parseRule (stream _ _)) (ruleBranch 3) LocalMember.rule 3 _ _ _ _ _ _ (λ before h. local-rule before _ (at-says "precedence" _ (c19 .args .token) (c15 .at .ensures) (c13 .says .ensures) refl ∙ (c12 .if1 .left)) (word-no _ "else" (c19 .args .token) refl _ (c10 .eat-at .ensures) (c8 .enum-told .given .1))) (λ x. refl) (λ x. refl) (onward-here _ (c19 .args .token) (c19 .pre .lies)) (c5 .parse-rule .result) (c .one2 .ensures) (c5 .parse-rule .ensures)
 
 same-length-7 : tie.Need-same-length-7
 same-length-7 c = search needs
@@ -109,7 +150,16 @@ same-length-8 c = search needs
 
 returns-5 : tie.Need-returns-5
 unfolding every
-returns-5 c = let y = word-yes _ "else" (c .before .before .before .before .before .before .before .before .before .before .before .before .before .before .before .before .before .before .before .before .before .args .token) refl _ (c .before .before .before .before .before .before .before .before .before .before .before .before .eat-at .ensures) (c .before .before .before .before .before .before .before .before .before .before .before .before .before .before .before .before .before .before .before .before .before .pre .lies) (c .before .before .before .before .before .before .before .before .before .before .u .given .1) in joined LocalTokens _ (parseRule (stream _ _)) (ruleBranch 3) LocalMember.rule 3 _ _ _ _ _ _ (λ before h. local-later before _ (at-says "precedence" _ (c .before .before .before .before .before .before .before .before .before .before .before .before .before .before .before .before .before .before .before .before .before .args .token) (c .before .before .before .before .before .before .before .before .before .before .before .before .before .before .before .before .before .at .ensures) (c .before .before .before .before .before .before .before .before .before .before .before .before .before .before .before .says .ensures) refl ∙ (c .before .before .before .before .before .before .before .before .before .before .before .before .before .before .if1 .left)) (y .0) h (c .before .before .before .before .before .before .before .before .if2 .left)) (λ x. refl) (λ x. refl) (y .1) (c .before .before .before .before .before .parse-rule2 .result) (c .one4 .ensures) (c .before .before .before .before .before .parse-rule2 .ensures)
+returns-5 c =
+    let c5 = c .before .before .before .before .before in
+    let c8 = c5 .before .before .before in
+    let c10 = c8 .before .before in
+    let c12 = c10 .before .before in
+    let c14 = c12 .before .before in
+    let c15 = c14 .before in
+    let c17 = c15 .before .before in
+    let c21 = c17 .before .before .before .before in
+    let y = word-yes _ "else" (c21 .args .token) refl _ (c12 .eat-at .ensures) (c21 .pre .lies) (c10 .u .given .1) in joined LocalTokens _ (parseRule (stream _ _)) (ruleBranch 3) LocalMember.rule 3 _ _ _ _ _ _ (λ before h. local-later before _ (at-says "precedence" _ (c21 .args .token) (c17 .at .ensures) (c15 .says .ensures) refl ∙ (c14 .if1 .left)) (y .0) h (c8 .if2 .left)) (λ x. refl) (λ x. refl) (y .1) (c5 .parse-rule2 .result) (c .one4 .ensures) (c5 .parse-rule2 .ensures)
 
 pub local-member-spec : {M : Type 1} → statement M
 local-member-spec =

@@ -79,7 +79,11 @@ same-length-8 : tie.Need-same-length-8
 same-length-8 c = search needs
 
 returns-4 : tie.Need-returns-4
-returns-4 c = rw (c .before .before .before .before .before .before .before .before .enum-told4 .given .1) (joined Specializer _ (parseNamedNode (stream _ _)) (namedNodeBranch) ExternalMember.token 13 _ _ _ _ _ _ (λ before h. specializer-token before _) (λ x. refl) (λ x. refl) (onward-here _ (c .before .before .before .before .before .before .before .before .before .before .before .before .before .args .token) (c .before .before .before .before .before .before .before .before .before .before .before .before .before .pre .lies)) (c .before .before .before .before .before .parse-named-node .result) (c .one .ensures) (c .before .before .before .before .before .parse-named-node .ensures))
+returns-4 c =
+    let c5 = c .before .before .before .before .before in
+    let c8 = c5 .before .before .before in
+    let c13 = c8 .before .before .before .before .before in
+    rw (c8 .enum-told4 .given .1) (joined Specializer _ (parseNamedNode (stream _ _)) (namedNodeBranch) ExternalMember.token 13 _ _ _ _ _ _ (λ before h. specializer-token before _) (λ x. refl) (λ x. refl) (onward-here _ (c13 .args .token) (c13 .pre .lies)) (c5 .parse-named-node .result) (c .one .ensures) (c5 .parse-named-node .ensures))
 
 same-length-9 : tie.Need-same-length-9
 same-length-9 c = search needs

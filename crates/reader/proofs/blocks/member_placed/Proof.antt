@@ -2,7 +2,6 @@
 -- Assumes nothing.
 use native.Mathlib.Omega.{arith}
 use mathlib.Core.Path.{refl}
-use lib.ListN.{length}
 use Rattle.reader.proofs.MemberLaws.{joined-at, joined-not}
 use Rattle.reader.proofs.MemberAhead.{group-in}
 use Rattle.reader.proofs.Spreading.{begins-ready, settled-on, settled}
@@ -14,16 +13,24 @@ group-ahead-requires : tie.Need-group-ahead-requires
 group-ahead-requires c κs = search needs
 
 mul-n : tie.Need-mul-n
-mul-n c = let k = group-in (c .before .before .before .before .before .before .args .block) (c .before .before .before .before .before .before .args .free) _ (c .before .before .before .before .before .before .args .token) (c .group-ahead .ensures) in let a = c .before .before .before .before .before .before .pre .words-all in let b = c .before .before .before .before .before .before .pre .bytes-all in omega arith
+mul-n c =
+    let c6 = c .before .before .before .before .before .before in
+    let k = group-in (c6 .args .block) (c6 .args .free) _ (c6 .args .token) (c .group-ahead .ensures) in let a = c6 .pre .words-all in let b = c6 .pre .bytes-all in omega arith
 
 slice-read-n : tie.Need-slice-read-n
-slice-read-n c = let k = group-in (c .before .before .before .before .before .before .before .args .block) (c .before .before .before .before .before .before .before .args .free) _ (c .before .before .before .before .before .before .before .args .token) (c .before .group-ahead .ensures) in let a = c .before .before .before .before .before .before .before .pre .words-all in let b = c .before .before .before .before .before .before .before .pre .bytes-all in omega arith
+slice-read-n c =
+    let c7 = c .before .before .before .before .before .before .before in
+    let k = group-in (c7 .args .block) (c7 .args .free) _ (c7 .args .token) (c .before .group-ahead .ensures) in let a = c7 .pre .words-all in let b = c7 .pre .bytes-all in omega arith
 
 mul-x : tie.Need-mul-x
-mul-x c = let k = group-in (c .before .before .before .before .before .before .before .args .block) (c .before .before .before .before .before .before .before .args .free) _ (c .before .before .before .before .before .before .before .args .token) (c .before .group-ahead .ensures) in let a = c .before .before .before .before .before .before .before .pre .words-all in let b = c .before .before .before .before .before .before .before .pre .bytes-all in omega arith
+mul-x c =
+    let c7 = c .before .before .before .before .before .before .before in
+    let k = group-in (c7 .args .block) (c7 .args .free) _ (c7 .args .token) (c .before .group-ahead .ensures) in let a = c7 .pre .words-all in let b = c7 .pre .bytes-all in omega arith
 
 slice-read-x : tie.Need-slice-read-x
-slice-read-x c = let k = group-in (c .before .before .before .before .before .before .before .before .args .block) (c .before .before .before .before .before .before .before .before .args .free) _ (c .before .before .before .before .before .before .before .before .args .token) (c .before .before .group-ahead .ensures) in let a = c .before .before .before .before .before .before .before .before .pre .words-all in let b = c .before .before .before .before .before .before .before .before .pre .bytes-all in omega arith
+slice-read-x c =
+    let c8 = c .before .before .before .before .before .before .before .before in
+    let k = group-in (c8 .args .block) (c8 .args .free) _ (c8 .args .token) (c .before .before .group-ahead .ensures) in let a = c8 .pre .words-all in let b = c8 .pre .bytes-all in omega arith
 
 member-requires : tie.Need-member-requires
 member-requires c κs = begins-ready (c .before .before .before .before .before .before .before .before .before .before .pre) _
@@ -35,22 +42,38 @@ enum-known-u : tie.Need-enum-known-u
 enum-known-u c = search needs
 
 mul-words : tie.Need-mul-words
-mul-words c = let k = group-in (c .before .before .before .before .before .before .before .before .before .before .before .before .before .before .before .before .before .before .args .block) (c .before .before .before .before .before .before .before .before .before .before .before .before .before .before .before .before .before .before .args .free) _ (c .before .before .before .before .before .before .before .before .before .before .before .before .before .before .before .before .before .before .args .token) (c .before .before .before .before .before .before .before .before .before .before .before .before .group-ahead .ensures) in let a = c .before .before .before .before .before .before .before .before .before .before .before .before .before .before .before .before .before .before .pre .words-all in let b = c .before .before .before .before .before .before .before .before .before .before .before .before .before .before .before .before .before .before .pre .bytes-all in omega arith
+mul-words c =
+    let c12 = c .before .before .before .before .before .before .before .before .before .before .before .before in
+    let c18 = c12 .before .before .before .before .before .before in
+    let k = group-in (c18 .args .block) (c18 .args .free) _ (c18 .args .token) (c12 .group-ahead .ensures) in let a = c18 .pre .words-all in let b = c18 .pre .bytes-all in omega arith
 
 slice-write-words : tie.Need-slice-write-words
-slice-write-words c = let k = group-in (c .before .before .before .before .before .before .before .before .before .before .before .before .before .before .before .before .before .before .args .block) (c .before .before .before .before .before .before .before .before .before .before .before .before .before .before .before .before .before .before .args .free) _ (c .before .before .before .before .before .before .before .before .before .before .before .before .before .before .before .before .before .before .args .token) (c .before .before .before .before .before .before .before .before .before .before .before .before .group-ahead .ensures) in let a = c .before .before .before .before .before .before .before .before .before .before .before .before .before .before .before .before .before .before .pre .words-all in let b = c .before .before .before .before .before .before .before .before .before .before .before .before .before .before .before .before .before .before .pre .bytes-all in omega arith
+slice-write-words c =
+    let c12 = c .before .before .before .before .before .before .before .before .before .before .before .before in
+    let c18 = c12 .before .before .before .before .before .before in
+    let k = group-in (c18 .args .block) (c18 .args .free) _ (c18 .args .token) (c12 .group-ahead .ensures) in let a = c18 .pre .words-all in let b = c18 .pre .bytes-all in omega arith
 
 mul-bytes : tie.Need-mul-bytes
-mul-bytes c = let k = group-in (c .before .before .before .before .before .before .before .before .before .before .before .before .before .before .before .before .before .before .args .block) (c .before .before .before .before .before .before .before .before .before .before .before .before .before .before .before .before .before .before .args .free) _ (c .before .before .before .before .before .before .before .before .before .before .before .before .before .before .before .before .before .before .args .token) (c .before .before .before .before .before .before .before .before .before .before .before .before .group-ahead .ensures) in let a = c .before .before .before .before .before .before .before .before .before .before .before .before .before .before .before .before .before .before .pre .words-all in let b = c .before .before .before .before .before .before .before .before .before .before .before .before .before .before .before .before .before .before .pre .bytes-all in omega arith
+mul-bytes c =
+    let c12 = c .before .before .before .before .before .before .before .before .before .before .before .before in
+    let c18 = c12 .before .before .before .before .before .before in
+    let k = group-in (c18 .args .block) (c18 .args .free) _ (c18 .args .token) (c12 .group-ahead .ensures) in let a = c18 .pre .words-all in let b = c18 .pre .bytes-all in omega arith
 
 slice-write-bytes : tie.Need-slice-write-bytes
-slice-write-bytes c = let k = group-in (c .before .before .before .before .before .before .before .before .before .before .before .before .before .before .before .before .before .before .args .block) (c .before .before .before .before .before .before .before .before .before .before .before .before .before .before .before .before .before .before .args .free) _ (c .before .before .before .before .before .before .before .before .before .before .before .before .before .before .before .before .before .before .args .token) (c .before .before .before .before .before .before .before .before .before .before .before .before .group-ahead .ensures) in let a = c .before .before .before .before .before .before .before .before .before .before .before .before .before .before .before .before .before .before .pre .words-all in let b = c .before .before .before .before .before .before .before .before .before .before .before .before .before .before .before .before .before .before .pre .bytes-all in omega arith
+slice-write-bytes c =
+    let c12 = c .before .before .before .before .before .before .before .before .before .before .before .before in
+    let c18 = c12 .before .before .before .before .before .before in
+    let k = group-in (c18 .args .block) (c18 .args .free) _ (c18 .args .token) (c12 .group-ahead .ensures) in let a = c18 .pre .words-all in let b = c18 .pre .bytes-all in omega arith
 
 sub-t29 : tie.Need-sub-t29
-sub-t29 c = let j = joined-at _ _ _ _ _ _ _ _ (c .before .before .before .before .before .before .before .member .result) (c .before .before .before .before .before .before .before .member .ensures) (c .before .u .given .1) in let o = settled-on j in omega arith
+sub-t29 c =
+    let c7 = c .before .before .before .before .before .before .before in
+    let j = joined-at _ _ _ _ _ _ _ _ (c7 .member .result) (c7 .member .ensures) (c .before .u .given .1) in let o = settled-on j in omega arith
 
 sub-t32 : tie.Need-sub-t32
-sub-t32 c = let j = joined-at _ _ _ _ _ _ _ _ (c .before .before .before .before .before .before .before .member .result) (c .before .before .before .before .before .before .before .member .ensures) (c .before .u .given .1) in let o = settled-on j in omega arith
+sub-t32 c =
+    let c7 = c .before .before .before .before .before .before .before in
+    let j = joined-at _ _ _ _ _ _ _ _ (c7 .member .result) (c7 .member .ensures) (c .before .u .given .1) in let o = settled-on j in omega arith
 
 same-length : tie.Need-same-length
 same-length c = search needs
@@ -59,7 +82,9 @@ same-length-2 : tie.Need-same-length-2
 same-length-2 c = search needs
 
 returns : tie.Need-returns
-returns c = joined-not _ _ _ _ _ _ _ _ (c .before .before .before .before .before .before .before .member .result) (c .before .before .before .before .before .before .before .member .ensures) (c .before .cause .given .1)
+returns c =
+    let c7 = c .before .before .before .before .before .before .before in
+    joined-not _ _ _ _ _ _ _ _ (c7 .member .result) (c7 .member .ensures) (c .before .cause .given .1)
 
 same-length-3 : tie.Need-same-length-3
 same-length-3 c = search needs
@@ -74,7 +99,10 @@ same-length-6 : tie.Need-same-length-6
 same-length-6 c = search needs
 
 returns-2 : tie.Need-returns-2
-returns-2 c = let j = joined-at _ _ _ _ _ _ _ _ (c .before .before .before .before .before .before .before .member .result) (c .before .before .before .before .before .before .before .member .ensures) (c .before .u .given .1) in settled j (c .before .before .before .before .before .before .before .before .before .before .before .before .group-ahead .ensures) refl refl refl refl
+returns-2 c =
+    let c7 = c .before .before .before .before .before .before .before in
+    let c12 = c7 .before .before .before .before .before in
+    let j = joined-at _ _ _ _ _ _ _ _ (c7 .member .result) (c7 .member .ensures) (c .before .u .given .1) in settled j (c12 .group-ahead .ensures) refl refl refl refl
 
 pub member-placed-spec : {M : Type 1} → statement M
 member-placed-spec =

@@ -42,7 +42,11 @@ same-length-4 : tie.Need-same-length-4 Inv-loop μ-loop
 same-length-4 c = omega (arith, c .before .before .before .before .before .loop .inv .fills .texts .same)
 
 returns : tie.Need-returns Inv-loop μ-loop
-returns c = spreading-closed (c .before .before .before .before .before .loop .inv) (c .before .before .before .before .comma .ensures) (c .before .before .before .opening .ensures) (c .before .u .given .1)
+returns c =
+    let c3 = c .before .before .before in
+    let c4 = c3 .before in
+    let c5 = c4 .before in
+    spreading-closed (c5 .loop .inv) (c4 .comma .ensures) (c3 .opening .ensures) (c .before .u .given .1)
 
 enum-known-cause : tie.Need-enum-known-cause Inv-loop μ-loop
 enum-known-cause c = search needs
@@ -60,58 +64,137 @@ same-length-8 : tie.Need-same-length-8 Inv-loop μ-loop
 same-length-8 c = omega (arith, c .before .before .before .before .before .loop .inv .fills .texts .same)
 
 returns-2 : tie.Need-returns-2 Inv-loop μ-loop
-returns-2 c = members-refused (c .before .before .before .before .before .loop .inv .membering) (c .before .before .before .before .comma .ensures) (c .before .before .before .opening .ensures) (c .before .cause .given .1)
+returns-2 c =
+    let c3 = c .before .before .before in
+    let c4 = c3 .before in
+    let c5 = c4 .before in
+    members-refused (c5 .loop .inv .membering) (c4 .comma .ensures) (c3 .opening .ensures) (c .before .cause .given .1)
 
 enum-known-u-2 : tie.Need-enum-known-u-2 Inv-loop μ-loop
 enum-known-u-2 c = search needs
 
 member-placed-requires : tie.Need-member-placed-requires Inv-loop μ-loop
-member-placed-requires c κs = spreading-begins (c .before .before .before .before .before .before .before .before .before .loop .inv) (c .before .before .before .before .before .before .before .before .before .before .before .before .before .before .before .pre) (item-onward "}" (c .before .before .before .before .before .before .before .opening .ensures) (c .before .before .before .before .before .u2 .given .1) .lies)
+member-placed-requires c κs =
+    let c5 = c .before .before .before .before .before in
+    let c7 = c5 .before .before in
+    let c9 = c7 .before .before in
+    let c15 = c9 .before .before .before .before .before .before in
+    spreading-begins (c9 .loop .inv) (c15 .pre) (item-onward "}" (c7 .opening .ensures) (c5 .u2 .given .1) .lies)
 
 enum-known-cause-2 : tie.Need-enum-known-cause-2 Inv-loop μ-loop
 enum-known-cause-2 c = search needs
 
 same-length-9 : tie.Need-same-length-9 Inv-loop μ-loop
-same-length-9 c = omega (arith, c .before .before .before .before .before .before .before .before .before .before .before .before .before .before .before .before .before .before .before .before .before .loop .inv .fills .same-places)
+same-length-9 c =
+    let c21 = c .before .before .before .before .before .before .before .before .before .before .before .before .before .before .before .before .before .before .before .before .before in
+    omega (arith, c21 .loop .inv .fills .same-places)
 
 same-length-10 : tie.Need-same-length-10 Inv-loop μ-loop
-same-length-10 c = omega (arith, c .before .before .before .before .before .before .before .before .before .before .before .before .before .before .before .before .before .before .before .before .before .loop .inv .fills .same-bytes)
+same-length-10 c =
+    let c21 = c .before .before .before .before .before .before .before .before .before .before .before .before .before .before .before .before .before .before .before .before .before in
+    omega (arith, c21 .loop .inv .fills .same-bytes)
 
 same-length-11 : tie.Need-same-length-11 Inv-loop μ-loop
-same-length-11 c = omega (arith, c .before .before .before .before .before .before .before .before .before .before .before .before .before .before .before .before .before .before .before .before .before .loop .inv .fills .records .same)
+same-length-11 c =
+    let c21 = c .before .before .before .before .before .before .before .before .before .before .before .before .before .before .before .before .before .before .before .before .before in
+    omega (arith, c21 .loop .inv .fills .records .same)
 
 same-length-12 : tie.Need-same-length-12 Inv-loop μ-loop
-same-length-12 c = omega (arith, c .before .before .before .before .before .before .before .before .before .before .before .before .before .before .before .before .before .before .before .before .before .loop .inv .fills .texts .same)
+same-length-12 c =
+    let c21 = c .before .before .before .before .before .before .before .before .before .before .before .before .before .before .before .before .before .before .before .before .before in
+    omega (arith, c21 .loop .inv .fills .texts .same)
 
 returns-3 : tie.Need-returns-3 Inv-loop μ-loop
-returns-3 c = member-refused (c .before .before .before .before .before .before .before .before .before .before .before .before .before .before .before .before .before .before .before .before .before .loop .inv .membering) (c .before .before .before .before .before .before .before .before .before .before .before .before .before .before .before .before .before .before .before .before .comma .ensures) (c .before .before .before .before .before .before .before .before .before .before .before .before .before .before .before .before .before .before .before .opening .ensures) (c .before .before .before .before .before .before .before .before .before .before .before .before .before .before .before .before .before .u2 .given .1) (settled-not _ _ _ _ _ _ _ _ _ _ _ _ (c .before .before .before .before .before .before .before .before .before .before .before .member-placed .result) (c .before .before .before .before .before .before .before .before .before .before .before .member-placed .ensures) (c .before .cause2 .given .1))
+returns-3 c =
+    let c11 = c .before .before .before .before .before .before .before .before .before .before .before in
+    let c17 = c11 .before .before .before .before .before .before in
+    let c19 = c17 .before .before in
+    let c20 = c19 .before in
+    let c21 = c20 .before in
+    member-refused (c21 .loop .inv .membering) (c20 .comma .ensures) (c19 .opening .ensures) (c17 .u2 .given .1) (settled-not _ _ _ _ _ _ _ _ _ _ _ _ (c11 .member-placed .result) (c11 .member-placed .ensures) (c .before .cause2 .given .1))
 
 enum-known-v : tie.Need-enum-known-v Inv-loop μ-loop
 enum-known-v c = search needs
 
 add-m : tie.Need-add-m Inv-loop μ-loop
-add-m c = let k = spreading-small (spreading-next (c .before .before .before .before .before .before .before .before .before .before .before .before .before .before .before .before .before .before .before .before .before .loop .inv) (c .before .before .before .before .before .before .before .before .before .before .before .before .before .before .before .before .before .before .before .before .comma .ensures) (c .before .before .before .before .before .before .before .before .before .before .before .before .before .before .before .before .before .before .before .opening .ensures) (c .before .before .before .before .before .before .before .before .before .before .before .before .before .before .before .before .before .u2 .given .1) (c .before .before .before .before .before .before .before .before .before .before .before .before .before .before .before .before .before .before .before .before .before .before .before .before .before .before .before .pre) (settled-at _ _ _ _ _ _ _ _ _ _ _ _ (c .before .before .before .before .before .before .before .before .before .before .before .member-placed .result) (c .before .before .before .before .before .before .before .before .before .before .before .member-placed .ensures) (c .before .v .given .1)) refl) (c .before .before .before .before .before .before .before .before .before .before .before .before .before .before .before .before .before .before .before .before .before .before .before .before .before .before .before .pre .small) .2 in omega arith
+add-m c =
+    let c11 = c .before .before .before .before .before .before .before .before .before .before .before in
+    let c17 = c11 .before .before .before .before .before .before in
+    let c19 = c17 .before .before in
+    let c20 = c19 .before in
+    let c21 = c20 .before in
+    let c27 = c21 .before .before .before .before .before .before in
+    let k = spreading-small (spreading-next (c21 .loop .inv) (c20 .comma .ensures) (c19 .opening .ensures) (c17 .u2 .given .1) (c27 .pre) (settled-at _ _ _ _ _ _ _ _ _ _ _ _ (c11 .member-placed .result) (c11 .member-placed .ensures) (c .before .v .given .1)) refl) (c27 .pre .small) .2 in omega arith
 
 add-y : tie.Need-add-y Inv-loop μ-loop
-add-y c = let k = spreading-small (spreading-next (c .before .before .before .before .before .before .before .before .before .before .before .before .before .before .before .before .before .before .before .before .before .loop .inv) (c .before .before .before .before .before .before .before .before .before .before .before .before .before .before .before .before .before .before .before .before .comma .ensures) (c .before .before .before .before .before .before .before .before .before .before .before .before .before .before .before .before .before .before .before .opening .ensures) (c .before .before .before .before .before .before .before .before .before .before .before .before .before .before .before .before .before .u2 .given .1) (c .before .before .before .before .before .before .before .before .before .before .before .before .before .before .before .before .before .before .before .before .before .before .before .before .before .before .before .pre) (settled-at _ _ _ _ _ _ _ _ _ _ _ _ (c .before .before .before .before .before .before .before .before .before .before .before .member-placed .result) (c .before .before .before .before .before .before .before .before .before .before .before .member-placed .ensures) (c .before .v .given .1)) refl) (c .before .before .before .before .before .before .before .before .before .before .before .before .before .before .before .before .before .before .before .before .before .before .before .before .before .before .before .pre .small) .3 in omega arith
+add-y c =
+    let c11 = c .before .before .before .before .before .before .before .before .before .before .before in
+    let c17 = c11 .before .before .before .before .before .before in
+    let c19 = c17 .before .before in
+    let c20 = c19 .before in
+    let c21 = c20 .before in
+    let c27 = c21 .before .before .before .before .before .before in
+    let k = spreading-small (spreading-next (c21 .loop .inv) (c20 .comma .ensures) (c19 .opening .ensures) (c17 .u2 .given .1) (c27 .pre) (settled-at _ _ _ _ _ _ _ _ _ _ _ _ (c11 .member-placed .result) (c11 .member-placed .ensures) (c .before .v .given .1)) refl) (c27 .pre .small) .3 in omega arith
 
 add-count : tie.Need-add-count Inv-loop μ-loop
-add-count c = let k = spreading-small (spreading-next (c .before .before .before .before .before .before .before .before .before .before .before .before .before .before .before .before .before .before .before .before .before .loop .inv) (c .before .before .before .before .before .before .before .before .before .before .before .before .before .before .before .before .before .before .before .before .comma .ensures) (c .before .before .before .before .before .before .before .before .before .before .before .before .before .before .before .before .before .before .before .opening .ensures) (c .before .before .before .before .before .before .before .before .before .before .before .before .before .before .before .before .before .u2 .given .1) (c .before .before .before .before .before .before .before .before .before .before .before .before .before .before .before .before .before .before .before .before .before .before .before .before .before .before .before .pre) (settled-at _ _ _ _ _ _ _ _ _ _ _ _ (c .before .before .before .before .before .before .before .before .before .before .before .member-placed .result) (c .before .before .before .before .before .before .before .before .before .before .before .member-placed .ensures) (c .before .v .given .1)) refl) (c .before .before .before .before .before .before .before .before .before .before .before .before .before .before .before .before .before .before .before .before .before .before .before .before .before .before .before .pre .small) .0 in omega arith
+add-count c =
+    let c11 = c .before .before .before .before .before .before .before .before .before .before .before in
+    let c17 = c11 .before .before .before .before .before .before in
+    let c19 = c17 .before .before in
+    let c20 = c19 .before in
+    let c21 = c20 .before in
+    let c27 = c21 .before .before .before .before .before .before in
+    let k = spreading-small (spreading-next (c21 .loop .inv) (c20 .comma .ensures) (c19 .opening .ensures) (c17 .u2 .given .1) (c27 .pre) (settled-at _ _ _ _ _ _ _ _ _ _ _ _ (c11 .member-placed .result) (c11 .member-placed .ensures) (c .before .v .given .1)) refl) (c27 .pre .small) .0 in omega arith
 
 add-children : tie.Need-add-children Inv-loop μ-loop
-add-children c = let k = spreading-small (spreading-next (c .before .before .before .before .before .before .before .before .before .before .before .before .before .before .before .before .before .before .before .before .before .loop .inv) (c .before .before .before .before .before .before .before .before .before .before .before .before .before .before .before .before .before .before .before .before .comma .ensures) (c .before .before .before .before .before .before .before .before .before .before .before .before .before .before .before .before .before .before .before .opening .ensures) (c .before .before .before .before .before .before .before .before .before .before .before .before .before .before .before .before .before .u2 .given .1) (c .before .before .before .before .before .before .before .before .before .before .before .before .before .before .before .before .before .before .before .before .before .before .before .before .before .before .before .pre) (settled-at _ _ _ _ _ _ _ _ _ _ _ _ (c .before .before .before .before .before .before .before .before .before .before .before .member-placed .result) (c .before .before .before .before .before .before .before .before .before .before .before .member-placed .ensures) (c .before .v .given .1)) refl) (c .before .before .before .before .before .before .before .before .before .before .before .before .before .before .before .before .before .before .before .before .before .before .before .before .before .before .before .pre .small) .1 in omega arith
+add-children c =
+    let c11 = c .before .before .before .before .before .before .before .before .before .before .before in
+    let c17 = c11 .before .before .before .before .before .before in
+    let c19 = c17 .before .before in
+    let c20 = c19 .before in
+    let c21 = c20 .before in
+    let c27 = c21 .before .before .before .before .before .before in
+    let k = spreading-small (spreading-next (c21 .loop .inv) (c20 .comma .ensures) (c19 .opening .ensures) (c17 .u2 .given .1) (c27 .pre) (settled-at _ _ _ _ _ _ _ _ _ _ _ _ (c11 .member-placed .result) (c11 .member-placed .ensures) (c .before .v .given .1)) refl) (c27 .pre .small) .1 in omega arith
 
 loop-less : tie.Need-loop-less Inv-loop μ-loop
-loop-less c = let k = spreading-onward (c .before .before .before .before .before .before .before .before .before .before .before .before .before .before .before .before .before .before .before .before .before .before .loop .inv) (c .before .before .before .before .before .before .before .before .before .before .before .before .before .before .before .before .before .before .before .before .before .comma .ensures) (c .before .before .before .before .before .before .before .before .before .before .before .before .before .before .before .before .before .before .before .before .opening .ensures) (c .before .before .before .before .before .before .before .before .before .before .before .before .before .before .before .before .before .before .u2 .given .1) (c .before .before .before .before .before .before .before .before .before .before .before .before .before .before .before .before .before .before .before .before .before .before .before .before .before .before .before .before .pre) (settled-at _ _ _ _ _ _ _ _ _ _ _ _ (c .before .before .before .before .before .before .before .before .before .before .before .before .member-placed .result) (c .before .before .before .before .before .before .before .before .before .before .before .before .member-placed .ensures) (c .before .before .v .given .1)) .fewer in omega arith
+loop-less c =
+    let c12 = c .before .before .before .before .before .before .before .before .before .before .before .before in
+    let c18 = c12 .before .before .before .before .before .before in
+    let c20 = c18 .before .before in
+    let c21 = c20 .before in
+    let c22 = c21 .before in
+    let c28 = c22 .before .before .before .before .before .before in
+    let k = spreading-onward (c22 .loop .inv) (c21 .comma .ensures) (c20 .opening .ensures) (c18 .u2 .given .1) (c28 .pre) (settled-at _ _ _ _ _ _ _ _ _ _ _ _ (c12 .member-placed .result) (c12 .member-placed .ensures) (c .before .before .v .given .1)) .fewer in omega arith
 
 loop-again : tie.Need-loop-again Inv-loop μ-loop
-loop-again c = spreading-next (c .before .before .before .before .before .before .before .before .before .before .before .before .before .before .before .before .before .before .before .before .before .before .loop .inv) (c .before .before .before .before .before .before .before .before .before .before .before .before .before .before .before .before .before .before .before .before .before .comma .ensures) (c .before .before .before .before .before .before .before .before .before .before .before .before .before .before .before .before .before .before .before .before .opening .ensures) (c .before .before .before .before .before .before .before .before .before .before .before .before .before .before .before .before .before .before .u2 .given .1) (c .before .before .before .before .before .before .before .before .before .before .before .before .before .before .before .before .before .before .before .before .before .before .before .before .before .before .before .before .pre) (settled-at _ _ _ _ _ _ _ _ _ _ _ _ (c .before .before .before .before .before .before .before .before .before .before .before .before .member-placed .result) (c .before .before .before .before .before .before .before .before .before .before .before .before .member-placed .ensures) (c .before .before .v .given .1)) (rw (c .if1 .taken))
+loop-again c =
+    let c12 = c .before .before .before .before .before .before .before .before .before .before .before .before in
+    let c18 = c12 .before .before .before .before .before .before in
+    let c20 = c18 .before .before in
+    let c21 = c20 .before in
+    let c22 = c21 .before in
+    let c28 = c22 .before .before .before .before .before .before in
+    spreading-next (c22 .loop .inv) (c21 .comma .ensures) (c20 .opening .ensures) (c18 .u2 .given .1) (c28 .pre) (settled-at _ _ _ _ _ _ _ _ _ _ _ _ (c12 .member-placed .result) (c12 .member-placed .ensures) (c .before .before .v .given .1)) (rw (c .if1 .taken))
 
 loop-less-2 : tie.Need-loop-less-2 Inv-loop μ-loop
-loop-less-2 c = let k = spreading-onward (c .before .before .before .before .before .before .before .before .before .before .before .before .before .before .before .before .before .before .before .before .before .before .loop .inv) (c .before .before .before .before .before .before .before .before .before .before .before .before .before .before .before .before .before .before .before .before .before .comma .ensures) (c .before .before .before .before .before .before .before .before .before .before .before .before .before .before .before .before .before .before .before .before .opening .ensures) (c .before .before .before .before .before .before .before .before .before .before .before .before .before .before .before .before .before .before .u2 .given .1) (c .before .before .before .before .before .before .before .before .before .before .before .before .before .before .before .before .before .before .before .before .before .before .before .before .before .before .before .before .pre) (settled-at _ _ _ _ _ _ _ _ _ _ _ _ (c .before .before .before .before .before .before .before .before .before .before .before .before .member-placed .result) (c .before .before .before .before .before .before .before .before .before .before .before .before .member-placed .ensures) (c .before .before .v .given .1)) .fewer in omega arith
+loop-less-2 c =
+    let c12 = c .before .before .before .before .before .before .before .before .before .before .before .before in
+    let c18 = c12 .before .before .before .before .before .before in
+    let c20 = c18 .before .before in
+    let c21 = c20 .before in
+    let c22 = c21 .before in
+    let c28 = c22 .before .before .before .before .before .before in
+    let k = spreading-onward (c22 .loop .inv) (c21 .comma .ensures) (c20 .opening .ensures) (c18 .u2 .given .1) (c28 .pre) (settled-at _ _ _ _ _ _ _ _ _ _ _ _ (c12 .member-placed .result) (c12 .member-placed .ensures) (c .before .before .v .given .1)) .fewer in omega arith
 
 loop-again-2 : tie.Need-loop-again-2 Inv-loop μ-loop
-loop-again-2 c = spreading-next (c .before .before .before .before .before .before .before .before .before .before .before .before .before .before .before .before .before .before .before .before .before .before .loop .inv) (c .before .before .before .before .before .before .before .before .before .before .before .before .before .before .before .before .before .before .before .before .before .comma .ensures) (c .before .before .before .before .before .before .before .before .before .before .before .before .before .before .before .before .before .before .before .before .opening .ensures) (c .before .before .before .before .before .before .before .before .before .before .before .before .before .before .before .before .before .before .u2 .given .1) (c .before .before .before .before .before .before .before .before .before .before .before .before .before .before .before .before .before .before .before .before .before .before .before .before .before .before .before .before .pre) (settled-at _ _ _ _ _ _ _ _ _ _ _ _ (c .before .before .before .before .before .before .before .before .before .before .before .before .member-placed .result) (c .before .before .before .before .before .before .before .before .before .before .before .before .member-placed .ensures) (c .before .before .v .given .1)) (rw (c .if1 .left))
+loop-again-2 c =
+    let c12 = c .before .before .before .before .before .before .before .before .before .before .before .before in
+    let c18 = c12 .before .before .before .before .before .before in
+    let c20 = c18 .before .before in
+    let c21 = c20 .before in
+    let c22 = c21 .before in
+    let c28 = c22 .before .before .before .before .before .before in
+    spreading-next (c22 .loop .inv) (c21 .comma .ensures) (c20 .opening .ensures) (c18 .u2 .given .1) (c28 .pre) (settled-at _ _ _ _ _ _ _ _ _ _ _ _ (c12 .member-placed .result) (c12 .member-placed .ensures) (c .before .before .v .given .1)) (rw (c .if1 .left))
 
 pub members-pass-spec : {M : Type 1} → statement M
 members-pass-spec =

@@ -27,10 +27,17 @@ slice-aggregate-parse-members-2 : tie.Need-slice-aggregate-parse-members-2
 slice-aggregate-parse-members-2 c = search needs
 
 parse-members-requires : tie.Need-parse-members-requires
-parse-members-requires c κs = (roomy-step (c .before .before .before .before .before .before .before .before .before .before .before .pre) (brace-onward (c .before .before .before .before .before .before .before .before .before .before .before .args .block) _ _ (c .before .before .before .before .before .before .before .before .before .before .before .pre .lies) _ (c .before .before .before .before .before .before .before .expect-punctuation .ensures) (c .before .before .before .before .before .u .given .1)), block-blank, block-blank)
+parse-members-requires c κs =
+    let c5 = c .before .before .before .before .before in
+    let c7 = c5 .before .before in
+    let c11 = c7 .before .before .before .before in
+    (roomy-step (c11 .pre) (brace-onward (c11 .args .block) _ _ (c11 .pre .lies) _ (c7 .expect-punctuation .ensures) (c5 .u .given .1)), block-blank, block-blank)
 
 returns : tie.Need-returns
-returns c = block-refused (betweenBy (commaOf (c .before .before .before .before .before .before .before .args .block))) (memberOf (c .before .before .before .before .before .before .before .args .block)) _ (expect-not _ "{" _ _ (c .before .before .before .expect-punctuation .ensures) (c .before .cause .given .1))
+returns c =
+    let c3 = c .before .before .before in
+    let c7 = c3 .before .before .before .before in
+    block-refused (betweenBy (commaOf (c7 .args .block))) (memberOf (c7 .args .block)) _ (expect-not _ "{" _ _ (c3 .expect-punctuation .ensures) (c .before .cause .given .1))
 
 same-length : tie.Need-same-length
 same-length c = search needs
@@ -39,7 +46,12 @@ same-length-2 : tie.Need-same-length-2
 same-length-2 c = search needs
 
 returns-2 : tie.Need-returns-2
-returns-2 c = block-gathered (c .before .before .before .before .before .before .before .before .before .before .before .before .before .before .before .before .before .before .args .block) _ _ (c .before .before .before .before .before .before .before .before .before .before .before .before .before .before .before .before .before .before .pre .lies) _ (c .before .before .before .before .before .before .before .before .before .before .before .before .before .before .expect-punctuation .ensures) (c .before .before .before .before .before .before .before .before .before .before .before .before .u .given .1) _ _ _ _ _ _ (c .before .before .before .before .before .before .parse-members .result) (c .before .before .before .before .before .before .parse-members .ensures)
+returns-2 c =
+    let c6 = c .before .before .before .before .before .before in
+    let c12 = c6 .before .before .before .before .before .before in
+    let c14 = c12 .before .before in
+    let c18 = c14 .before .before .before .before in
+    block-gathered (c18 .args .block) _ _ (c18 .pre .lies) _ (c14 .expect-punctuation .ensures) (c12 .u .given .1) _ _ _ _ _ _ (c6 .parse-members .result) (c6 .parse-members .ensures)
 
 pub parse-block-spec : {M : Type 1} → statement M
 parse-block-spec =

@@ -22,7 +22,9 @@ slice-aggregate-members-pass-2 : tie.Need-slice-aggregate-members-pass-2
 slice-aggregate-members-pass-2 c = search needs
 
 members-pass-requires : tie.Need-members-pass-requires
-members-pass-requires c κs = blank-begins (c .before .before .before .before .before .before .before .before .before .pre .0) (c .before .before .before .before .before .before .before .before .before .pre .1) (c .before .before .before .before .before .before .before .before .before .pre .2)
+members-pass-requires c κs =
+    let c9 = c .before .before .before .before .before .before .before .before .before in
+    blank-begins (c9 .pre .0 .lies) (c9 .pre .0 .small) (c9 .pre .1) (c9 .pre .2)
 
 enum-known-cause : tie.Need-enum-known-cause
 enum-known-cause c = search needs
@@ -31,10 +33,18 @@ enum-known-v : tie.Need-enum-known-v
 enum-known-v c = search needs
 
 add-t32 : tie.Need-add-t32
-add-t32 c = let k = spread-small (c .before .before .before .before .before .before .before .before .before .before .before .before .before .before .before .before .before .before .before .before .before .before .before .pre .0) (c .before .before .before .before .before .before .before .before .before .before .before .before .before .before .before .before .before .before .before .before .before .before .before .pre .1) (c .before .before .before .before .before .before .before .before .before .before .before .before .before .before .before .before .before .before .before .before .before .before .before .pre .2) (spread-at _ _ _ _ _ _ _ _ _ _ _ (c .before .before .before .before .before .before .before .before .before .before .before .before .before .members-pass .result) (c .before .before .before .before .before .before .before .before .before .before .before .before .before .members-pass .ensures) (c .before .before .before .v .given .1)) .0 in omega arith
+add-t32 c =
+    let c3 = c .before .before .before in
+    let c13 = c3 .before .before .before .before .before .before .before .before .before .before in
+    let c23 = c13 .before .before .before .before .before .before .before .before .before .before in
+    let k = spread-small (c23 .pre .0) (c23 .pre .1) (c23 .pre .2) (spread-at _ _ _ _ _ _ _ _ _ _ _ (c13 .members-pass .result) (c13 .members-pass .ensures) (c3 .v .given .1)) .0 in omega arith
 
 add-t33 : tie.Need-add-t33
-add-t33 c = let k = spread-small (c .before .before .before .before .before .before .before .before .before .before .before .before .before .before .before .before .before .before .before .before .before .before .before .pre .0) (c .before .before .before .before .before .before .before .before .before .before .before .before .before .before .before .before .before .before .before .before .before .before .before .pre .1) (c .before .before .before .before .before .before .before .before .before .before .before .before .before .before .before .before .before .before .before .before .before .before .before .pre .2) (spread-at _ _ _ _ _ _ _ _ _ _ _ (c .before .before .before .before .before .before .before .before .before .before .before .before .before .members-pass .result) (c .before .before .before .before .before .before .before .before .before .before .before .before .before .members-pass .ensures) (c .before .before .before .v .given .1)) .1 in omega arith
+add-t33 c =
+    let c3 = c .before .before .before in
+    let c13 = c3 .before .before .before .before .before .before .before .before .before .before in
+    let c23 = c13 .before .before .before .before .before .before .before .before .before .before in
+    let k = spread-small (c23 .pre .0) (c23 .pre .1) (c23 .pre .2) (spread-at _ _ _ _ _ _ _ _ _ _ _ (c13 .members-pass .result) (c13 .members-pass .ensures) (c3 .v .given .1)) .1 in omega arith
 
 same-length : tie.Need-same-length
 same-length c = search needs
@@ -49,16 +59,34 @@ same-length-4 : tie.Need-same-length-4
 same-length-4 c = search needs
 
 returns : tie.Need-returns
-returns c = let j = (spread-at _ _ _ _ _ _ _ _ _ _ _ (c .before .before .before .before .before .before .before .before .before .before .before .before .before .members-pass .result) (c .before .before .before .before .before .before .before .before .before .before .before .before .before .members-pass .ensures) (c .before .before .before .v .given .1)) in let v = before-words j refl (c .before .before .before .before .before .before .before .before .before .before .before .before .before .before .before .before .before .before .before .before .before .before .before .args .records .now) in let w = before-texts j refl (c .before .before .before .before .before .before .before .before .before .before .before .before .before .before .before .before .before .before .before .before .before .before .before .args .texts .now) in spread-none (c .before .before .before .before .before .before .before .before .before .before .before .before .before .before .before .before .before .before .before .before .before .before .before .pre .0) (c .before .before .before .before .before .before .before .before .before .before .before .before .before .before .before .before .before .before .before .before .before .before .before .pre .1) (c .before .before .before .before .before .before .before .before .before .before .before .before .before .before .before .before .before .before .before .before .before .before .before .pre .2) j (sym (ap length v) ∙ c .before .if1 .taken) (sym (ap length w) ∙ is-zero _ (c .if2 .taken)) (c .before .if1 .taken) (is-zero _ (c .if2 .taken))
+returns c =
+    let c3 = c .before .before .before in
+    let c13 = c3 .before .before .before .before .before .before .before .before .before .before in
+    let c23 = c13 .before .before .before .before .before .before .before .before .before .before in
+    let j = (spread-at _ _ _ _ _ _ _ _ _ _ _ (c13 .members-pass .result) (c13 .members-pass .ensures) (c3 .v .given .1)) in let v = before-words j refl (c23 .args .records .now) in let w = before-texts j refl (c23 .args .texts .now) in spread-none (c23 .pre .0) (c23 .pre .1) (c23 .pre .2) j (sym (ap length v) ∙ c .before .if1 .taken) (sym (ap length w) ∙ is-zero _ (c .if2 .taken)) (c .before .if1 .taken) (is-zero _ (c .if2 .taken))
 
 line-up-requires : tie.Need-line-up-requires
-line-up-requires c κs = words-small (c .before .before .before .before .before .before .before .before .before .before .before .before .before .before .before .before .before .before .before .before .before .before .before .pre .0) (c .before .before .before .before .before .before .before .before .before .before .before .before .before .before .before .before .before .before .before .before .before .before .before .pre .1) (c .before .before .before .before .before .before .before .before .before .before .before .before .before .before .before .before .before .before .before .before .before .before .before .pre .2) (spread-at _ _ _ _ _ _ _ _ _ _ _ (c .before .before .before .before .before .before .before .before .before .before .before .before .before .members-pass .result) (c .before .before .before .before .before .before .before .before .before .before .before .before .before .members-pass .ensures) (c .before .before .before .v .given .1))
+line-up-requires c κs =
+    let c3 = c .before .before .before in
+    let c13 = c3 .before .before .before .before .before .before .before .before .before .before in
+    let c23 = c13 .before .before .before .before .before .before .before .before .before .before in
+    words-small (c23 .pre .0) (c23 .pre .1) (c23 .pre .2) (spread-at _ _ _ _ _ _ _ _ _ _ _ (c13 .members-pass .result) (c13 .members-pass .ensures) (c3 .v .given .1))
 
 line-up-requires-2 : tie.Need-line-up-requires-2
-line-up-requires-2 c κs = bytes-small (c .before .before .before .before .before .before .before .before .before .before .before .before .before .before .before .before .before .before .before .before .before .before .before .before .before .before .before .pre .0) (c .before .before .before .before .before .before .before .before .before .before .before .before .before .before .before .before .before .before .before .before .before .before .before .before .before .before .before .pre .1) (c .before .before .before .before .before .before .before .before .before .before .before .before .before .before .before .before .before .before .before .before .before .before .before .before .before .before .before .pre .2) (spread-at _ _ _ _ _ _ _ _ _ _ _ (c .before .before .before .before .before .before .before .before .before .before .before .before .before .before .before .before .before .members-pass .result) (c .before .before .before .before .before .before .before .before .before .before .before .before .before .before .before .before .before .members-pass .ensures) (c .before .before .before .before .before .before .before .v .given .1))
+line-up-requires-2 c κs =
+    let c7 = c .before .before .before .before .before .before .before in
+    let c17 = c7 .before .before .before .before .before .before .before .before .before .before in
+    let c27 = c17 .before .before .before .before .before .before .before .before .before .before in
+    bytes-small (c27 .pre .0) (c27 .pre .1) (c27 .pre .2) (spread-at _ _ _ _ _ _ _ _ _ _ _ (c17 .members-pass .result) (c17 .members-pass .ensures) (c7 .v .given .1))
 
 members-pass-requires-2 : tie.Need-members-pass-requires-2
-members-pass-requires-2 c κs = lined-begins (c .before .before .before .before .before .before .before .before .before .before .before .before .before .before .before .before .before .before .before .before .before .before .before .before .before .before .before .before .before .before .before .before .before .before .pre .0) (c .before .before .before .before .before .before .before .before .before .before .before .before .before .before .before .before .before .before .before .before .before .before .before .before .before .before .before .before .before .before .before .before .before .before .pre .1) (c .before .before .before .before .before .before .before .before .before .before .before .before .before .before .before .before .before .before .before .before .before .before .before .before .before .before .before .before .before .before .before .before .before .before .pre .2) (spread-at _ _ _ _ _ _ _ _ _ _ _ (c .before .before .before .before .before .before .before .before .before .before .before .before .before .before .before .before .before .before .before .before .before .before .before .before .members-pass .result) (c .before .before .before .before .before .before .before .before .before .before .before .before .before .before .before .before .before .before .before .before .before .before .before .before .members-pass .ensures) (c .before .before .before .before .before .before .before .before .before .before .before .before .before .before .v .given .1)) (c .before .before .before .before .before .before .before .before .before .before .line-up .ensures) (c .before .before .before .before .before .before .line-up2 .ensures)
+members-pass-requires-2 c κs =
+    let c6 = c .before .before .before .before .before .before in
+    let c10 = c6 .before .before .before .before in
+    let c14 = c10 .before .before .before .before in
+    let c24 = c14 .before .before .before .before .before .before .before .before .before .before in
+    let c34 = c24 .before .before .before .before .before .before .before .before .before .before in
+    lined-begins (c34 .pre .0) (c34 .pre .1) (c34 .pre .2) (spread-at _ _ _ _ _ _ _ _ _ _ _ (c24 .members-pass .result) (c24 .members-pass .ensures) (c14 .v .given .1)) (c10 .line-up .ensures) (c6 .line-up2 .ensures)
 
 enum-known-cause-2 : tie.Need-enum-known-cause-2
 enum-known-cause-2 c = search needs
@@ -67,10 +95,18 @@ enum-told : tie.Need-enum-told
 enum-told c = search needs
 
 add-t49 : tie.Need-add-t49
-add-t49 c = let k = spread-small (c .before .before .before .before .before .before .before .before .before .before .before .before .before .before .before .before .before .before .before .before .before .before .before .before .before .before .before .before .before .before .before .before .before .before .before .before .before .before .before .before .before .before .before .before .before .pre .0) (c .before .before .before .before .before .before .before .before .before .before .before .before .before .before .before .before .before .before .before .before .before .before .before .before .before .before .before .before .before .before .before .before .before .before .before .before .before .before .before .before .before .before .before .before .before .pre .1) (c .before .before .before .before .before .before .before .before .before .before .before .before .before .before .before .before .before .before .before .before .before .before .before .before .before .before .before .before .before .before .before .before .before .before .before .before .before .before .before .before .before .before .before .before .before .pre .2) (spread-at _ _ _ _ _ _ _ _ _ _ _ (c .before .before .before .before .before .before .before .before .before .before .before .before .before .before .before .before .before .before .before .before .before .before .before .before .before .before .before .before .before .before .before .before .before .before .before .members-pass .result) (c .before .before .before .before .before .before .before .before .before .before .before .before .before .before .before .before .before .before .before .before .before .before .before .before .before .before .before .before .before .before .before .before .before .before .before .members-pass .ensures) (c .before .before .before .before .before .before .before .before .before .before .before .before .before .before .before .before .before .before .before .before .before .before .before .before .before .v .given .1)) .0 in omega arith
+add-t49 c =
+    let c25 = c .before .before .before .before .before .before .before .before .before .before .before .before .before .before .before .before .before .before .before .before .before .before .before .before .before in
+    let c35 = c25 .before .before .before .before .before .before .before .before .before .before in
+    let c45 = c35 .before .before .before .before .before .before .before .before .before .before in
+    let k = spread-small (c45 .pre .0) (c45 .pre .1) (c45 .pre .2) (spread-at _ _ _ _ _ _ _ _ _ _ _ (c35 .members-pass .result) (c35 .members-pass .ensures) (c25 .v .given .1)) .0 in omega arith
 
 add-t50 : tie.Need-add-t50
-add-t50 c = let k = spread-small (c .before .before .before .before .before .before .before .before .before .before .before .before .before .before .before .before .before .before .before .before .before .before .before .before .before .before .before .before .before .before .before .before .before .before .before .before .before .before .before .before .before .before .before .before .before .pre .0) (c .before .before .before .before .before .before .before .before .before .before .before .before .before .before .before .before .before .before .before .before .before .before .before .before .before .before .before .before .before .before .before .before .before .before .before .before .before .before .before .before .before .before .before .before .before .pre .1) (c .before .before .before .before .before .before .before .before .before .before .before .before .before .before .before .before .before .before .before .before .before .before .before .before .before .before .before .before .before .before .before .before .before .before .before .before .before .before .before .before .before .before .before .before .before .pre .2) (spread-at _ _ _ _ _ _ _ _ _ _ _ (c .before .before .before .before .before .before .before .before .before .before .before .before .before .before .before .before .before .before .before .before .before .before .before .before .before .before .before .before .before .before .before .before .before .before .before .members-pass .result) (c .before .before .before .before .before .before .before .before .before .before .before .before .before .before .before .before .before .before .before .before .before .before .before .before .before .before .before .before .before .before .before .before .before .before .before .members-pass .ensures) (c .before .before .before .before .before .before .before .before .before .before .before .before .before .before .before .before .before .before .before .before .before .before .before .before .before .v .given .1)) .1 in omega arith
+add-t50 c =
+    let c25 = c .before .before .before .before .before .before .before .before .before .before .before .before .before .before .before .before .before .before .before .before .before .before .before .before .before in
+    let c35 = c25 .before .before .before .before .before .before .before .before .before .before in
+    let c45 = c35 .before .before .before .before .before .before .before .before .before .before in
+    let k = spread-small (c45 .pre .0) (c45 .pre .1) (c45 .pre .2) (spread-at _ _ _ _ _ _ _ _ _ _ _ (c35 .members-pass .result) (c35 .members-pass .ensures) (c25 .v .given .1)) .1 in omega arith
 
 same-length-5 : tie.Need-same-length-5
 same-length-5 c = search needs
@@ -85,7 +121,9 @@ same-length-8 : tie.Need-same-length-8
 same-length-8 c = search needs
 
 returns-2 : tie.Need-returns-2
-returns-2 c = spread-not _ _ _ _ _ _ _ _ _ _ _ (c .before .before .before .before .before .before .before .before .before .before .before .members-pass .result) (c .before .before .before .before .before .before .before .before .before .before .before .members-pass .ensures) (c .before .cause .given .1)
+returns-2 c =
+    let c11 = c .before .before .before .before .before .before .before .before .before .before .before in
+    spread-not _ _ _ _ _ _ _ _ _ _ _ (c11 .members-pass .result) (c11 .members-pass .ensures) (c .before .cause .given .1)
 
 same-length-9 : tie.Need-same-length-9
 same-length-9 c = search needs
@@ -100,7 +138,9 @@ same-length-12 : tie.Need-same-length-12
 same-length-12 c = search needs
 
 returns-3 : tie.Need-returns-3
-returns-3 c = spread-not _ _ _ _ _ _ _ _ _ _ _ (c .before .before .before .before .before .before .before .before .before .before .before .members-pass2 .result) (c .before .before .before .before .before .before .before .before .before .before .before .members-pass2 .ensures) (c .before .cause2 .given .1)
+returns-3 c =
+    let c11 = c .before .before .before .before .before .before .before .before .before .before .before in
+    spread-not _ _ _ _ _ _ _ _ _ _ _ (c11 .members-pass2 .result) (c11 .members-pass2 .ensures) (c .before .cause2 .given .1)
 
 same-length-13 : tie.Need-same-length-13
 same-length-13 c = search needs
@@ -115,7 +155,14 @@ same-length-16 : tie.Need-same-length-16
 same-length-16 c = search needs
 
 returns-4 : tie.Need-returns-4
-returns-4 c = let j = (spread-at _ _ _ _ _ _ _ _ _ _ _ (c .before .before .before .before .before .before .before .before .before .before .before .before .before .before .before .before .before .before .before .before .before .before .before .before .before .before .before .before .before .before .before .before .before .before .before .members-pass .result) (c .before .before .before .before .before .before .before .before .before .before .before .before .before .before .before .before .before .before .before .before .before .before .before .before .before .before .before .before .before .before .before .before .before .before .before .members-pass .ensures) (c .before .before .before .before .before .before .before .before .before .before .before .before .before .before .before .before .before .before .before .before .before .before .before .before .before .v .given .1)) in spread-over (c .before .before .before .before .before .before .before .before .before .before .before .before .before .before .before .before .before .before .before .before .before .before .before .before .before .before .before .before .before .before .before .before .before .before .before .before .before .before .before .before .before .before .before .before .before .pre .0) (c .before .before .before .before .before .before .before .before .before .before .before .before .before .before .before .before .before .before .before .before .before .before .before .before .before .before .before .before .before .before .before .before .before .before .before .before .before .before .before .before .before .before .before .before .before .pre .1) (c .before .before .before .before .before .before .before .before .before .before .before .before .before .before .before .before .before .before .before .before .before .before .before .before .before .before .before .before .before .before .before .before .before .before .before .before .before .before .before .before .before .before .before .before .before .pre .2) j (c .before .before .before .before .before .before .before .before .before .before .before .before .before .before .before .before .before .before .before .before .before .line-up .ensures) (c .before .before .before .before .before .before .before .before .before .before .before .before .before .before .before .before .before .line-up2 .ensures) (spread-at _ _ _ _ _ _ _ _ _ _ _ (c .before .before .before .before .before .before .before .before .before .before .members-pass2 .result) (c .before .before .before .before .before .before .before .before .before .before .members-pass2 .ensures) (c .enum-told .given .1)) (before-words j refl (c .before .before .before .before .before .before .before .before .before .before .before .before .before .before .before .before .before .before .before .before .before .before .before .before .before .before .before .before .before .before .before .before .before .before .before .before .before .before .before .before .before .before .before .before .before .args .records .now)) (before-texts j refl (c .before .before .before .before .before .before .before .before .before .before .before .before .before .before .before .before .before .before .before .before .before .before .before .before .before .before .before .before .before .before .before .before .before .before .before .before .before .before .before .before .before .before .before .before .before .args .texts .now))
+returns-4 c =
+    let c10 = c .before .before .before .before .before .before .before .before .before .before in
+    let c17 = c10 .before .before .before .before .before .before .before in
+    let c21 = c17 .before .before .before .before in
+    let c25 = c21 .before .before .before .before in
+    let c35 = c25 .before .before .before .before .before .before .before .before .before .before in
+    let c45 = c35 .before .before .before .before .before .before .before .before .before .before in
+    let j = (spread-at _ _ _ _ _ _ _ _ _ _ _ (c35 .members-pass .result) (c35 .members-pass .ensures) (c25 .v .given .1)) in spread-over (c45 .pre .0) (c45 .pre .1) (c45 .pre .2) j (c21 .line-up .ensures) (c17 .line-up2 .ensures) (spread-at _ _ _ _ _ _ _ _ _ _ _ (c10 .members-pass2 .result) (c10 .members-pass2 .ensures) (c .enum-told .given .1)) (before-words j refl (c45 .args .records .now)) (before-texts j refl (c45 .args .texts .now))
 
 pub parse-members-spec : {M : Type 1} → statement M
 parse-members-spec =

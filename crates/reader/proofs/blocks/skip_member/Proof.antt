@@ -39,14 +39,21 @@ enum-known-u c = search needs
 
 parse-rule-requires-2 : tie.Need-parse-rule-requires-2
 unfolding every
-parse-rule-requires-2 c κs = ready-step (c .before .before .before .before .before .before .before .before .before .before .pre) ((word-yes _ "top" (c .before .before .before .before .before .before .before .before .before .before .args .token) refl _ (c .before .before .before .before .before .eat-at .ensures) (c .before .before .before .before .before .before .before .before .before .before .pre .lies) (c .before .before .before .u .given .1)) .1)
+parse-rule-requires-2 c κs =
+    let c3 = c .before .before .before in
+    let c5 = c3 .before .before in
+    let c10 = c5 .before .before .before .before .before in
+    ready-step (c10 .pre) ((word-yes _ "top" (c10 .args .token) refl _ (c5 .eat-at .ensures) (c10 .pre .lies) (c3 .u .given .1)) .1)
 
 one-requires-2 : tie.Need-one-requires-2
 one-requires-2 c κs = search needs
 
 returns : tie.Need-returns
 unfolding every
-returns c = λ before h. skip-refused before _ (word-not _ "top" (c .before .before .before .before .before .before .before .before .args .token) refl _ (c .before .before .before .eat-at .ensures) (c .before .cause .given .1))
+returns c =
+    let c3 = c .before .before .before in
+    let c8 = c3 .before .before .before .before .before in
+    λ before h. skip-refused before _ (word-not _ "top" (c8 .args .token) refl _ (c3 .eat-at .ensures) (c .before .cause .given .1))
 
 same-length : tie.Need-same-length
 same-length c = search needs
@@ -56,7 +63,12 @@ same-length-2 c = search needs
 
 returns-2 : tie.Need-returns-2
 unfolding every
-returns-2 c = joined Skip _ (parseRule (stream _ _)) (ruleBranch 3) SkipMember.rule 3 _ _ _ _ _ _ (λ before h. skip-rule before _ (word-no _ "top" (c .before .before .before .before .before .before .before .before .before .before .before .before .before .before .before .args .token) refl _ (c .before .before .before .before .before .before .before .before .before .before .eat-at .ensures) (c .before .before .before .before .before .before .before .before .enum-told .given .1))) (λ x. refl) (λ x. refl) (onward-here _ (c .before .before .before .before .before .before .before .before .before .before .before .before .before .before .before .args .token) (c .before .before .before .before .before .before .before .before .before .before .before .before .before .before .before .pre .lies)) (c .before .before .before .before .before .parse-rule .result) (c .one .ensures) (c .before .before .before .before .before .parse-rule .ensures)
+returns-2 c =
+    let c5 = c .before .before .before .before .before in
+    let c8 = c5 .before .before .before in
+    let c10 = c8 .before .before in
+    let c15 = c10 .before .before .before .before .before in
+    joined Skip _ (parseRule (stream _ _)) (ruleBranch 3) SkipMember.rule 3 _ _ _ _ _ _ (λ before h. skip-rule before _ (word-no _ "top" (c15 .args .token) refl _ (c10 .eat-at .ensures) (c8 .enum-told .given .1))) (λ x. refl) (λ x. refl) (onward-here _ (c15 .args .token) (c15 .pre .lies)) (c5 .parse-rule .result) (c .one .ensures) (c5 .parse-rule .ensures)
 
 same-length-3 : tie.Need-same-length-3
 same-length-3 c = search needs
@@ -66,7 +78,12 @@ same-length-4 c = search needs
 
 returns-3 : tie.Need-returns-3
 unfolding every
-returns-3 c = let y = word-yes _ "top" (c .before .before .before .before .before .before .before .before .before .before .before .before .before .before .before .before .args .token) refl _ (c .before .before .before .before .before .before .before .before .before .before .before .eat-at .ensures) (c .before .before .before .before .before .before .before .before .before .before .before .before .before .before .before .before .pre .lies) (c .before .before .before .before .before .before .before .before .before .u .given .1) in joined Skip _ (parseRule (stream _ _)) (ruleBranch 2) SkipMember.topRule 2 _ _ _ _ _ _ (λ before h. skip-top before _ (y .0)) (λ x. refl) (λ x. refl) (y .1) (c .before .before .before .before .before .parse-rule2 .result) (c .one2 .ensures) (c .before .before .before .before .before .parse-rule2 .ensures)
+returns-3 c =
+    let c5 = c .before .before .before .before .before in
+    let c9 = c5 .before .before .before .before in
+    let c11 = c9 .before .before in
+    let c16 = c11 .before .before .before .before .before in
+    let y = word-yes _ "top" (c16 .args .token) refl _ (c11 .eat-at .ensures) (c16 .pre .lies) (c9 .u .given .1) in joined Skip _ (parseRule (stream _ _)) (ruleBranch 2) SkipMember.topRule 2 _ _ _ _ _ _ (λ before h. skip-top before _ (y .0)) (λ x. refl) (λ x. refl) (y .1) (c5 .parse-rule2 .result) (c .one2 .ensures) (c5 .parse-rule2 .ensures)
 
 pub skip-member-spec : {M : Type 1} → statement M
 skip-member-spec =

@@ -21,7 +21,11 @@ enum-known-a : tie.Need-enum-known-a
 enum-known-a c = search needs
 
 parse-literal-requires : tie.Need-parse-literal-requires
-parse-literal-requires c κs = (c .before .before .before .before .before .before .before .before .before .pre, rw (c .before .before .before .before .before .string .ensures) at (c .before .before .before .a .given .1))
+parse-literal-requires c κs =
+    let c3 = c .before .before .before in
+    let c5 = c3 .before .before in
+    let c9 = c5 .before .before .before .before in
+    (c9 .pre, rw (c5 .string .ensures) at (c3 .a .given .1))
 
 one-requires : tie.Need-one-requires
 one-requires c κs = search needs
@@ -36,11 +40,17 @@ slice-aggregate-says : tie.Need-slice-aggregate-says
 slice-aggregate-says c = search needs
 
 says-requires : tie.Need-says-requires
-says-requires c κs = rw (c .before .at .ensures) (at-whole _ (c .before .before .before .before .before .before .before .before .args .token) 0 (c .before .before .before .before .before .before .before .before .pre .lies))
+says-requires c κs =
+    let c8 = c .before .before .before .before .before .before .before .before in
+    rw (c .before .at .ensures) (at-whole _ (c8 .args .token) 0 (c8 .pre .lies))
 
 parse-token-precedence-requires : tie.Need-parse-token-precedence-requires
 unfolding every
-parse-token-precedence-requires c κs = (c .before .before .before .before .before .before .before .before .before .before .before .before .pre, says-token "precedence" _ (c .before .before .before .before .before .before .before .before .before .before .before .before .args .token) (at-says "precedence" _ (c .before .before .before .before .before .before .before .before .before .before .before .before .args .token) (c .before .before .before .before .before .at .ensures) (c .before .before .before .says .ensures) refl ∙ (c .before .before .if1 .taken)))
+parse-token-precedence-requires c κs =
+    let c3 = c .before .before .before in
+    let c5 = c3 .before .before in
+    let c12 = c5 .before .before .before .before .before .before .before in
+    (c12 .pre, says-token "precedence" _ (c12 .args .token) (at-says "precedence" _ (c12 .args .token) (c5 .at .ensures) (c3 .says .ensures) refl ∙ (c .before .before .if1 .taken)))
 
 one-requires-2 : tie.Need-one-requires-2
 one-requires-2 c κs = search needs
@@ -53,7 +63,15 @@ same-length-2 c = search needs
 
 returns : tie.Need-returns
 unfolding every
-returns c = joined Tokens _ (parseTokenPrecedence (stream _ _)) (tokenPrecBranch) TokenMember.precedence 9 _ _ _ _ _ _ (λ before h. token-precedence before _ (c .before .before .before .before .before .before .before .before .before .before .before .before .before .before .before .before .before .before .args .token) (c .before .before .before .before .before .before .before .before .before .before .before .before .before .before .string .ensures) (c .before .before .before .before .before .before .before .before .before .before .before .before .enum-told .given .1) (at-says "precedence" _ (c .before .before .before .before .before .before .before .before .before .before .before .before .before .before .before .before .before .before .args .token) (c .before .before .before .before .before .before .before .before .before .before .before .at .ensures) (c .before .before .before .before .before .before .before .before .before .says .ensures) refl ∙ (c .before .before .before .before .before .before .before .before .if1 .taken))) (λ x. refl) (λ x. refl) (onward-here _ (c .before .before .before .before .before .before .before .before .before .before .before .before .before .before .before .before .before .before .args .token) (c .before .before .before .before .before .before .before .before .before .before .before .before .before .before .before .before .before .before .pre .lies)) (c .before .before .before .before .before .parse-token-precedence .result) (c .one2 .ensures) (c .before .before .before .before .before .parse-token-precedence .ensures)
+returns c =
+    let c5 = c .before .before .before .before .before in
+    let c8 = c5 .before .before .before in
+    let c9 = c8 .before in
+    let c11 = c9 .before .before in
+    let c12 = c11 .before in
+    let c14 = c12 .before .before in
+    let c18 = c14 .before .before .before .before in
+    joined Tokens _ (parseTokenPrecedence (stream _ _)) (tokenPrecBranch) TokenMember.precedence 9 _ _ _ _ _ _ (λ before h. token-precedence before _ (c18 .args .token) (c14 .string .ensures) (c12 .enum-told .given .1) (at-says "precedence" _ (c18 .args .token) (c11 .at .ensures) (c9 .says .ensures) refl ∙ (c8 .if1 .taken))) (λ x. refl) (λ x. refl) (onward-here _ (c18 .args .token) (c18 .pre .lies)) (c5 .parse-token-precedence .result) (c .one2 .ensures) (c5 .parse-token-precedence .ensures)
 
 at-requires-2 : tie.Need-at-requires-2
 at-requires-2 c κs = search needs
@@ -62,11 +80,17 @@ slice-aggregate-says-2 : tie.Need-slice-aggregate-says-2
 slice-aggregate-says-2 c = search needs
 
 says-requires-2 : tie.Need-says-requires-2
-says-requires-2 c κs = rw (c .before .at2 .ensures) (at-whole _ (c .before .before .before .before .before .before .before .before .before .before .before .before .args .token) 0 (c .before .before .before .before .before .before .before .before .before .before .before .before .pre .lies))
+says-requires-2 c κs =
+    let c12 = c .before .before .before .before .before .before .before .before .before .before .before .before in
+    rw (c .before .at2 .ensures) (at-whole _ (c12 .args .token) 0 (c12 .pre .lies))
 
 parse-token-conflict-requires : tie.Need-parse-token-conflict-requires
 unfolding every
-parse-token-conflict-requires c κs = (c .before .before .before .before .before .before .before .before .before .before .before .before .before .before .before .before .pre, says-token "conflict" _ (c .before .before .before .before .before .before .before .before .before .before .before .before .before .before .before .before .args .token) (at-says "conflict" _ (c .before .before .before .before .before .before .before .before .before .before .before .before .before .before .before .before .args .token) (c .before .before .before .before .before .at2 .ensures) (c .before .before .before .says2 .ensures) refl ∙ (c .before .before .if2 .taken)))
+parse-token-conflict-requires c κs =
+    let c3 = c .before .before .before in
+    let c5 = c3 .before .before in
+    let c16 = c5 .before .before .before .before .before .before .before .before .before .before .before in
+    (c16 .pre, says-token "conflict" _ (c16 .args .token) (at-says "conflict" _ (c16 .args .token) (c5 .at2 .ensures) (c3 .says2 .ensures) refl ∙ (c .before .before .if2 .taken)))
 
 one-requires-3 : tie.Need-one-requires-3
 one-requires-3 c κs = search needs
@@ -79,7 +103,18 @@ same-length-4 c = search needs
 
 returns-2 : tie.Need-returns-2
 unfolding every
-returns-2 c = joined Tokens _ (parseTokenConflict (stream _ _)) (tokenConflictBranch) TokenMember.conflict 10 _ _ _ _ _ _ (λ before h. token-conflict before _ (c .before .before .before .before .before .before .before .before .before .before .before .before .before .before .before .before .before .before .before .before .before .before .args .token) (c .before .before .before .before .before .before .before .before .before .before .before .before .before .before .before .before .before .before .string .ensures) (c .before .before .before .before .before .before .before .before .before .before .before .before .before .before .before .before .enum-told .given .1) (at-says "precedence" _ (c .before .before .before .before .before .before .before .before .before .before .before .before .before .before .before .before .before .before .before .before .before .before .args .token) (c .before .before .before .before .before .before .before .before .before .before .before .before .before .before .before .at .ensures) (c .before .before .before .before .before .before .before .before .before .before .before .before .before .says .ensures) refl ∙ (c .before .before .before .before .before .before .before .before .before .before .before .before .if1 .left)) (at-says "conflict" _ (c .before .before .before .before .before .before .before .before .before .before .before .before .before .before .before .before .before .before .before .before .before .before .args .token) (c .before .before .before .before .before .before .before .before .before .before .before .at2 .ensures) (c .before .before .before .before .before .before .before .before .before .says2 .ensures) refl ∙ (c .before .before .before .before .before .before .before .before .if2 .taken))) (λ x. refl) (λ x. refl) (onward-here _ (c .before .before .before .before .before .before .before .before .before .before .before .before .before .before .before .before .before .before .before .before .before .before .args .token) (c .before .before .before .before .before .before .before .before .before .before .before .before .before .before .before .before .before .before .before .before .before .before .pre .lies)) (c .before .before .before .before .before .parse-token-conflict .result) (c .one3 .ensures) (c .before .before .before .before .before .parse-token-conflict .ensures)
+returns-2 c =
+    let c5 = c .before .before .before .before .before in
+    let c8 = c5 .before .before .before in
+    let c9 = c8 .before in
+    let c11 = c9 .before .before in
+    let c12 = c11 .before in
+    let c13 = c12 .before in
+    let c15 = c13 .before .before in
+    let c16 = c15 .before in
+    let c18 = c16 .before .before in
+    let c22 = c18 .before .before .before .before in
+    joined Tokens _ (parseTokenConflict (stream _ _)) (tokenConflictBranch) TokenMember.conflict 10 _ _ _ _ _ _ (λ before h. token-conflict before _ (c22 .args .token) (c18 .string .ensures) (c16 .enum-told .given .1) (at-says "precedence" _ (c22 .args .token) (c15 .at .ensures) (c13 .says .ensures) refl ∙ (c12 .if1 .left)) (at-says "conflict" _ (c22 .args .token) (c11 .at2 .ensures) (c9 .says2 .ensures) refl ∙ (c8 .if2 .taken))) (λ x. refl) (λ x. refl) (onward-here _ (c22 .args .token) (c22 .pre .lies)) (c5 .parse-token-conflict .result) (c .one3 .ensures) (c5 .parse-token-conflict .ensures)
 
 parse-rule-requires : tie.Need-parse-rule-requires
 parse-rule-requires c κs = search needs
@@ -94,7 +129,12 @@ same-length-6 : tie.Need-same-length-6
 same-length-6 c = search needs
 
 returns-3 : tie.Need-returns-3
-returns-3 c = joined Tokens _ _ literalBranch TokenMember.literal 11 _ _ _ _ _ _ (λ before h. token-literal before _ (c .before .before .before .before .before .before .before .before .before .before .before .before .before .before .before .args .token) (c .before .before .before .before .before .before .before .before .before .before .before .string .ensures) (c .before .before .before .before .before .before .before .before .before .a .given .1)) (λ x. refl) (λ x. refl) (onward-here _ (c .before .before .before .before .before .before .before .before .before .before .before .before .before .before .before .args .token) (c .before .before .before .before .before .before .before .before .before .before .before .before .before .before .before .pre .lies)) (c .before .before .before .before .before .parse-literal .result) (c .one .ensures) (c .before .before .before .before .before .parse-literal .ensures)
+returns-3 c =
+    let c5 = c .before .before .before .before .before in
+    let c9 = c5 .before .before .before .before in
+    let c11 = c9 .before .before in
+    let c15 = c11 .before .before .before .before in
+    joined Tokens _ _ literalBranch TokenMember.literal 11 _ _ _ _ _ _ (λ before h. token-literal before _ (c15 .args .token) (c11 .string .ensures) (c9 .a .given .1)) (λ x. refl) (λ x. refl) (onward-here _ (c15 .args .token) (c15 .pre .lies)) (c5 .parse-literal .result) (c .one .ensures) (c5 .parse-literal .ensures)
 
 same-length-7 : tie.Need-same-length-7
 same-length-7 c = search needs
@@ -104,7 +144,18 @@ same-length-8 c = search needs
 
 returns-4 : tie.Need-returns-4
 unfolding every
-returns-4 c = joined Tokens _ (parseRule (stream _ _)) (ruleBranch 3) TokenMember.rule 3 _ _ _ _ _ _ (λ before h. token-rule before _ (c .before .before .before .before .before .before .before .before .before .before .before .before .before .before .before .before .before .before .before .before .before .before .args .token) (c .before .before .before .before .before .before .before .before .before .before .before .before .before .before .before .before .before .before .string .ensures) (c .before .before .before .before .before .before .before .before .before .before .before .before .before .before .before .before .enum-told .given .1) (at-says "precedence" _ (c .before .before .before .before .before .before .before .before .before .before .before .before .before .before .before .before .before .before .before .before .before .before .args .token) (c .before .before .before .before .before .before .before .before .before .before .before .before .before .before .before .at .ensures) (c .before .before .before .before .before .before .before .before .before .before .before .before .before .says .ensures) refl ∙ (c .before .before .before .before .before .before .before .before .before .before .before .before .if1 .left)) (at-says "conflict" _ (c .before .before .before .before .before .before .before .before .before .before .before .before .before .before .before .before .before .before .before .before .before .before .args .token) (c .before .before .before .before .before .before .before .before .before .before .before .at2 .ensures) (c .before .before .before .before .before .before .before .before .before .says2 .ensures) refl ∙ (c .before .before .before .before .before .before .before .before .if2 .left))) (λ x. refl) (λ x. refl) (onward-here _ (c .before .before .before .before .before .before .before .before .before .before .before .before .before .before .before .before .before .before .before .before .before .before .args .token) (c .before .before .before .before .before .before .before .before .before .before .before .before .before .before .before .before .before .before .before .before .before .before .pre .lies)) (c .before .before .before .before .before .parse-rule .result) (c .one4 .ensures) (c .before .before .before .before .before .parse-rule .ensures)
+returns-4 c =
+    let c5 = c .before .before .before .before .before in
+    let c8 = c5 .before .before .before in
+    let c9 = c8 .before in
+    let c11 = c9 .before .before in
+    let c12 = c11 .before in
+    let c13 = c12 .before in
+    let c15 = c13 .before .before in
+    let c16 = c15 .before in
+    let c18 = c16 .before .before in
+    let c22 = c18 .before .before .before .before in
+    joined Tokens _ (parseRule (stream _ _)) (ruleBranch 3) TokenMember.rule 3 _ _ _ _ _ _ (λ before h. token-rule before _ (c22 .args .token) (c18 .string .ensures) (c16 .enum-told .given .1) (at-says "precedence" _ (c22 .args .token) (c15 .at .ensures) (c13 .says .ensures) refl ∙ (c12 .if1 .left)) (at-says "conflict" _ (c22 .args .token) (c11 .at2 .ensures) (c9 .says2 .ensures) refl ∙ (c8 .if2 .left))) (λ x. refl) (λ x. refl) (onward-here _ (c22 .args .token) (c22 .pre .lies)) (c5 .parse-rule .result) (c .one4 .ensures) (c5 .parse-rule .ensures)
 
 pub token-member-spec : {M : Type 1} → statement M
 token-member-spec =

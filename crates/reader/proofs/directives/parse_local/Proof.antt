@@ -31,7 +31,11 @@ start-requires : tie.Need-start-requires
 start-requires c κs = search needs
 
 parse-local-tokens-requires : tie.Need-parse-local-tokens-requires
-parse-local-tokens-requires c κs = (roomy-step (c .before .before .before .before .before .before .before .before .before .before .pre .0) (past-onward _ _ _ (c .before .before .before .before .before .before .next .ensures) (c .before .before .before .before .arrived .given .1) (c .before .before .before .before .before .before .before .before .before .before .pre .1) (c .before .before .before .before .before .before .before .before .before .before .pre .0 .lies)), start-within (roomy-ready (c .before .before .before .before .before .before .before .before .before .before .pre .0)) (c .before .before .start .ensures))
+parse-local-tokens-requires c κs =
+    let c4 = c .before .before .before .before in
+    let c6 = c4 .before .before in
+    let c10 = c6 .before .before .before .before in
+    (roomy-step (c10 .pre .0) (past-onward _ _ _ (c6 .next .ensures) (c4 .arrived .given .1) (c10 .pre .1) (c10 .pre .0 .lies)), start-within (roomy-ready (c10 .pre .0)) (c .before .before .start .ensures))
 
 same-length : tie.Need-same-length
 same-length c = search needs
@@ -40,7 +44,13 @@ same-length-2 : tie.Need-same-length-2
 same-length-2 c = search needs
 
 returns-2 : tie.Need-returns-2
-returns-2 c = parses-past _ _ _ (c .before .before .before .before .before .before .before .before .before .before .before .next .ensures) (c .before .before .before .before .before .before .before .before .before .arrived .given .1) (c .before .before .before .before .before .before .before .before .before .before .before .before .before .before .before .pre .1) (c .before .before .before .before .before .before .before .before .before .before .before .before .before .before .before .pre .0 .lies) (localAt _) (nodesOf localBranch) _ _ _ (c .before .before .before .before .parse-local-tokens .result) (rw (c .before .before .before .before .before .before .before .start .ensures) at (c .before .before .before .before .parse-local-tokens .ensures))
+returns-2 c =
+    let c4 = c .before .before .before .before in
+    let c7 = c4 .before .before .before in
+    let c9 = c7 .before .before in
+    let c11 = c9 .before .before in
+    let c15 = c11 .before .before .before .before in
+    parses-past _ _ _ (c11 .next .ensures) (c9 .arrived .given .1) (c15 .pre .1) (c15 .pre .0 .lies) (localAt _) (nodesOf localBranch) _ _ _ (c4 .parse-local-tokens .result) (rw (c7 .start .ensures) at (c4 .parse-local-tokens .ensures))
 
 pub parse-local-spec : {M : Type 1} → statement M
 parse-local-spec =

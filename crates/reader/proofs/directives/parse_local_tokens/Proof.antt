@@ -30,7 +30,11 @@ enum-known-u : tie.Need-enum-known-u
 enum-known-u c = search needs
 
 parse-block-requires : tie.Need-parse-block-requires
-parse-block-requires c κs = roomy-step (c .before .before .before .before .before .before .before .before .before .before .pre .0) (word-onward "tokens" _ _ _ (c .before .before .before .before .before .eat-identifier-value .ensures) tokens-plain (c .before .before .before .before .before .before .before .before .before .before .pre .0 .lies) (c .before .before .before .u .given .1))
+parse-block-requires c κs =
+    let c3 = c .before .before .before in
+    let c5 = c3 .before .before in
+    let c10 = c5 .before .before .before .before .before in
+    roomy-step (c10 .pre .0) (word-onward "tokens" _ _ _ (c5 .eat-identifier-value .ensures) tokens-plain (c10 .pre .0 .lies) (c3 .u .given .1))
 
 enum-known-listed : tie.Need-enum-known-listed
 enum-known-listed c = search needs
@@ -51,10 +55,19 @@ same-length-2 : tie.Need-same-length-2
 same-length-2 c = search needs
 
 returns : tie.Need-returns
-returns c = local-refused _ _ _ (word-yes "tokens" _ _ _ (c .before .before .before .before .before .before .before .before .before .before .before .before .before .before .eat-identifier-value .ensures) tokens-plain (c .before .before .before .before .before .before .before .before .before .before .before .before .u .given .1)) (gathered-not _ _ _ _ _ _ _ _ (c .before .before .before .before .before .before .before .before .parse-block .result) (c .before .before .before .before .before .before .before .before .parse-block .ensures) (listed-told (c .before .before .enum-told2 .given .1) (c .before .cause2 .ensures) (c .place .ensures)))
+returns c =
+    let c8 = c .before .before .before .before .before .before .before .before in
+    let c12 = c8 .before .before .before .before in
+    let c14 = c12 .before .before in
+    local-refused _ _ _ (word-yes "tokens" _ _ _ (c14 .eat-identifier-value .ensures) tokens-plain (c12 .u .given .1)) (gathered-not _ _ _ _ _ _ _ _ (c8 .parse-block .result) (c8 .parse-block .ensures) (listed-told (c .before .before .enum-told2 .given .1) (c .before .cause2 .ensures) (c .place .ensures)))
 
 put-plain-requires : tie.Need-put-plain-requires
-put-plain-requires c κs = over-asks (c .before .before .before .before .before .before .before .before .before .before .before .before .before .before .before .before .before .before .before .pre .0) (word-onward "tokens" _ _ _ (c .before .before .before .before .before .before .before .before .before .before .before .before .before .before .eat-identifier-value .ensures) tokens-plain (c .before .before .before .before .before .before .before .before .before .before .before .before .before .before .before .before .before .before .before .pre .0 .lies) (c .before .before .before .before .before .before .before .before .before .before .before .before .u .given .1)) (gathered _ _ _ _ _ _ _ _ (c .before .before .before .before .before .before .before .before .parse-block .result) (c .before .before .before .before .before .before .before .before .parse-block .ensures) (c .before .before .listed .given .1)) (c .before .before .before .before .before .before .before .before .before .before .before .before .before .before .before .before .before .before .before .pre .1) (omega arith)
+put-plain-requires c κs =
+    let c8 = c .before .before .before .before .before .before .before .before in
+    let c12 = c8 .before .before .before .before in
+    let c14 = c12 .before .before in
+    let c19 = c14 .before .before .before .before .before in
+    over-asks (c19 .pre .0) (word-onward "tokens" _ _ _ (c14 .eat-identifier-value .ensures) tokens-plain (c19 .pre .0 .lies) (c12 .u .given .1)) (gathered _ _ _ _ _ _ _ _ (c8 .parse-block .result) (c8 .parse-block .ensures) (c .before .before .listed .given .1)) (c19 .pre .1) (omega arith)
 
 returns-2 : tie.Need-returns-2
 returns-2 c = local-halt _ _ _ (word-not "tokens" _ _ _ (c .before .before .before .eat-identifier-value .ensures) tokens-plain (c .before .cause .given .1))
@@ -69,7 +82,13 @@ same-length-4 : tie.Need-same-length-4
 same-length-4 c = search needs
 
 returns-4 : tie.Need-returns-4
-returns-4 c = local-given _ _ _ (word-yes "tokens" _ _ _ (c .before .before .before .before .before .before .before .before .before .before .before .before .before .before .before .before .before .eat-identifier-value .ensures) tokens-plain (c .before .before .before .before .before .before .before .before .before .before .before .before .before .before .before .u .given .1)) (word-onward "tokens" _ _ _ (c .before .before .before .before .before .before .before .before .before .before .before .before .before .before .before .before .before .eat-identifier-value .ensures) tokens-plain (c .before .before .before .before .before .before .before .before .before .before .before .before .before .before .before .before .before .before .before .before .before .before .pre .0 .lies) (c .before .before .before .before .before .before .before .before .before .before .before .before .before .before .before .u .given .1)) (gathered _ _ _ _ _ _ _ _ (c .before .before .before .before .before .before .before .before .before .before .before .parse-block .result) (c .before .before .before .before .before .before .before .before .before .before .before .parse-block .ensures) (c .before .before .before .before .before .listed .given .1)) (c .before .before .put-plain .ensures)
+returns-4 c =
+    let c5 = c .before .before .before .before .before in
+    let c11 = c5 .before .before .before .before .before .before in
+    let c15 = c11 .before .before .before .before in
+    let c17 = c15 .before .before in
+    let c22 = c17 .before .before .before .before .before in
+    local-given _ _ _ (word-yes "tokens" _ _ _ (c17 .eat-identifier-value .ensures) tokens-plain (c15 .u .given .1)) (word-onward "tokens" _ _ _ (c17 .eat-identifier-value .ensures) tokens-plain (c22 .pre .0 .lies) (c15 .u .given .1)) (gathered _ _ _ _ _ _ _ _ (c11 .parse-block .result) (c11 .parse-block .ensures) (c5 .listed .given .1)) (c .before .before .put-plain .ensures)
 
 pub parse-local-tokens-spec : {M : Type 1} → statement M
 parse-local-tokens-spec =

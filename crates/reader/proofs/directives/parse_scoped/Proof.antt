@@ -10,7 +10,7 @@ use Rattle.reader.proofs.directives.parse_scoped.Statement.{statement}
 use Rattle.reader.proofs.directives.parse_scoped.Tie as tie
 
 holds-top-requires : tie.Need-holds-top-requires
-holds-top-requires c κs = search needs
+holds-top-requires c κs = (c .before .before .before .before .before .pre .0 .lies, c .before .before .before .before .before .pre .0 .small)
 
 parse-block-requires : tie.Need-parse-block-requires
 parse-block-requires c κs = search needs
@@ -34,13 +34,21 @@ same-length-2 : tie.Need-same-length-2
 same-length-2 c = search needs
 
 returns : tie.Need-returns
-returns c = gathered-not _ _ _ _ _ _ _ _ (c .before .before .before .before .before .before .before .before .parse-block .result) (c .before .before .before .before .before .before .before .before .parse-block .ensures) (listed-told (c .before .before .enum-told .given .1) (c .before .cause .ensures) (c .place .ensures))
+returns c =
+    let c8 = c .before .before .before .before .before .before .before .before in
+    gathered-not _ _ _ _ _ _ _ _ (c8 .parse-block .result) (c8 .parse-block .ensures) (listed-told (c .before .before .enum-told .given .1) (c .before .cause .ensures) (c .place .ensures))
 
 add-put-plain : tie.Need-add-put-plain
-add-put-plain c = let g = gathers-small (gathered _ _ _ _ _ _ _ _ (c .before .before .before .before .before .before .before .before .parse-block .result) (c .before .before .before .before .before .before .before .before .parse-block .ensures) (c .before .before .listed .given .1)) (c .before .before .before .before .before .before .before .before .before .before .before .before .before .before .before .before .before .before .before .before .before .pre .0 .small) in omega arith
+add-put-plain c =
+    let c8 = c .before .before .before .before .before .before .before .before in
+    let c21 = c8 .before .before .before .before .before .before .before .before .before .before .before .before .before in
+    let g = gathers-small (gathered _ _ _ _ _ _ _ _ (c8 .parse-block .result) (c8 .parse-block .ensures) (c .before .before .listed .given .1)) (c21 .pre .0 .small) in omega arith
 
 put-plain-requires : tie.Need-put-plain-requires
-put-plain-requires c κs = over-asks (c .before .before .before .before .before .before .before .before .before .before .before .before .before .before .before .before .before .before .before .before .before .pre .0) (onward-here _ _ (c .before .before .before .before .before .before .before .before .before .before .before .before .before .before .before .before .before .before .before .before .before .pre .0 .lies)) (gathered _ _ _ _ _ _ _ _ (c .before .before .before .before .before .before .before .before .parse-block .result) (c .before .before .before .before .before .before .before .before .parse-block .ensures) (c .before .before .listed .given .1)) (c .before .before .before .before .before .before .before .before .before .before .before .before .before .before .before .before .before .before .before .before .before .pre .1) (omega arith)
+put-plain-requires c κs =
+    let c8 = c .before .before .before .before .before .before .before .before in
+    let c21 = c8 .before .before .before .before .before .before .before .before .before .before .before .before .before in
+    over-asks (c21 .pre .0) (onward-here _ _ (c21 .pre .0 .lies)) (gathered _ _ _ _ _ _ _ _ (c8 .parse-block .result) (c8 .parse-block .ensures) (c .before .before .listed .given .1)) (c21 .pre .1) (omega arith)
 
 same-length-3 : tie.Need-same-length-3
 same-length-3 c = search needs
@@ -49,7 +57,11 @@ same-length-4 : tie.Need-same-length-4
 same-length-4 c = search needs
 
 returns-2 : tie.Need-returns-2
-returns-2 c = scoping (c .before .before .before .before .before .before .before .before .before .before .before .before .before .before .before .before .before .before .holds-top .ensures) (gathered _ _ _ _ _ _ _ _ (c .before .before .before .before .before .before .before .before .before .before .before .parse-block .result) (c .before .before .before .before .before .before .before .before .before .before .before .parse-block .ensures) (c .before .before .before .before .before .listed .given .1)) (c .before .before .put-plain .ensures)
+returns-2 c =
+    let c5 = c .before .before .before .before .before in
+    let c11 = c5 .before .before .before .before .before .before in
+    let c18 = c11 .before .before .before .before .before .before .before in
+    scoping (c18 .holds-top .ensures) (gathered _ _ _ _ _ _ _ _ (c11 .parse-block .result) (c11 .parse-block .ensures) (c5 .listed .given .1)) (c .before .before .put-plain .ensures)
 
 pub parse-scoped-spec : {M : Type 1} → statement M
 parse-scoped-spec =

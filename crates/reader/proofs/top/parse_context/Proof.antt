@@ -32,13 +32,20 @@ start-requires : tie.Need-start-requires
 start-requires c κs = search needs
 
 returns-2 : tie.Need-returns-2
-returns-2 c = λ before q. context-second _ _ _ _ (c .before .before .before .before .before .next .ensures) (c .before .before .before .arrived .given .1) before q (c .before .if1 .taken) (c .start .ensures)
+returns-2 c =
+    let c3 = c .before .before .before in
+    let c5 = c3 .before .before in
+    λ before q. context-second _ _ _ _ (c5 .next .ensures) (c3 .arrived .given .1) before q (c .before .if1 .taken) (c .start .ensures)
 
 start-requires-2 : tie.Need-start-requires-2
 start-requires-2 c κs = search needs
 
 parse-from-requires : tie.Need-parse-from-requires
-parse-from-requires c κs = (past-ready _ _ _ (c .before .before .before .before .before .before .before .next .ensures) (c .before .before .before .before .before .arrived .given .1) (c .before .before .before .before .before .before .before .before .before .before .before .pre .1) (c .before .before .before .before .before .before .before .before .before .before .before .pre .0 .lies) (c .before .before .before .before .before .before .before .before .before .before .before .pre .0), start-within (c .before .before .before .before .before .before .before .before .before .before .before .pre .0) (c .before .before .start2 .ensures))
+parse-from-requires c κs =
+    let c5 = c .before .before .before .before .before in
+    let c7 = c5 .before .before in
+    let c11 = c7 .before .before .before .before in
+    (past-ready _ _ _ (c7 .next .ensures) (c5 .arrived .given .1) (c11 .pre .1) (c11 .pre .0 .lies) (c11 .pre .0), start-within (c11 .pre .0) (c .before .before .start2 .ensures))
 
 of-kind-requires : tie.Need-of-kind-requires
 of-kind-requires c κs = search needs
@@ -50,7 +57,14 @@ same-length-2 : tie.Need-same-length-2
 same-length-2 c = search needs
 
 returns-3 : tie.Need-returns-3
-returns-3 c = declares-by (λ x. declaration (contextBy (c .before .before .before .before .before .before .before .before .start2 .result) x)) _ _ (nodesOf (fromBranch 14 (c .before .before .before .before .before .before .before .before .start2 .result))) 14 false _ _ _ _ _ _ (λ before q. rw (c .before .before .before .before .before .before .before .before .start2 .ensures) (context-first _ _ _ _ (c .before .before .before .before .before .before .before .before .before .before .before .before .before .next .ensures) (c .before .before .before .before .before .before .before .before .before .before .before .arrived .given .1) before q (c .before .before .before .before .before .before .before .before .before .if1 .left))) (λ x us q. context-plain (c .before .before .before .before .before .before .before .before .start2 .result) x) (c .before .before .before .before .before .parse-from .result) (parses-past _ _ _ (c .before .before .before .before .before .before .before .before .before .before .before .before .before .next .ensures) (c .before .before .before .before .before .before .before .before .before .before .before .arrived .given .1) (c .before .before .before .before .before .before .before .before .before .before .before .before .before .before .before .before .before .pre .1) (c .before .before .before .before .before .before .before .before .before .before .before .before .before .before .before .before .before .pre .0 .lies) fromSource (nodesOf (fromBranch 14 (c .before .before .before .before .before .before .before .before .start2 .result))) _ _ _ (c .before .before .before .before .before .parse-from .result) (c .before .before .before .before .before .parse-from .ensures)) (c .of-kind .result) (c .of-kind .ensures)
+returns-3 c =
+    let c5 = c .before .before .before .before .before in
+    let c8 = c5 .before .before .before in
+    let c9 = c8 .before in
+    let c11 = c9 .before .before in
+    let c13 = c11 .before .before in
+    let c17 = c13 .before .before .before .before in
+    declares-by (λ x. declaration (contextBy (c8 .start2 .result) x)) _ _ (nodesOf (fromBranch 14 (c8 .start2 .result))) 14 false _ _ _ _ _ _ (λ before q. rw (c8 .start2 .ensures) (context-first _ _ _ _ (c13 .next .ensures) (c11 .arrived .given .1) before q (c9 .if1 .left))) (λ x us q. context-plain (c8 .start2 .result) x) (c5 .parse-from .result) (parses-past _ _ _ (c13 .next .ensures) (c11 .arrived .given .1) (c17 .pre .1) (c17 .pre .0 .lies) fromSource (nodesOf (fromBranch 14 (c8 .start2 .result))) _ _ _ (c5 .parse-from .result) (c5 .parse-from .ensures)) (c .of-kind .result) (c .of-kind .ensures)
 
 pub parse-context-spec : {M : Type 1} → statement M
 parse-context-spec =

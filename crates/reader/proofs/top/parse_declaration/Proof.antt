@@ -34,10 +34,18 @@ same-length-2 : tie.Need-same-length-2
 same-length-2 c = search needs
 
 returns : tie.Need-returns
-returns c = declares-by (λ r. declaration (Declaration.rule r)) _ _ (nodesOf (ruleBranch 3)) 3 false _ _ _ _ _ _ (λ before q. declaration-rule _ _ before (sym (c .before .before .before .before .before .before .before .before .before .before .at .ensures) ∙ c .before .before .before .before .before .before .before .before .enum-told .given .1)) (λ x us q. rule-plain x) (c .before .before .before .before .before .parse-rule .result) (c .before .before .before .before .before .parse-rule .ensures) (c .of-kind .result) (c .of-kind .ensures)
+returns c =
+    let c5 = c .before .before .before .before .before in
+    let c8 = c5 .before .before .before in
+    let c10 = c8 .before .before in
+    declares-by (λ r. declaration (Declaration.rule r)) _ _ (nodesOf (ruleBranch 3)) 3 false _ _ _ _ _ _ (λ before q. declaration-rule _ _ before (sym (c10 .at .ensures) ∙ c8 .enum-told .given .1)) (λ x us q. rule-plain x) (c5 .parse-rule .result) (c5 .parse-rule .ensures) (c .of-kind .result) (c .of-kind .ensures)
 
 parse-directive-requires : tie.Need-parse-directive-requires
-parse-directive-requires c κs = (c .before .before .before .before .before .before .before .before .before .pre, sym (c .before .before .before .before .before .at .ensures) ∙ c .before .before .before .a .given .1)
+parse-directive-requires c κs =
+    let c3 = c .before .before .before in
+    let c5 = c3 .before .before in
+    let c9 = c5 .before .before .before .before in
+    (c9 .pre, sym (c5 .at .ensures) ∙ c3 .a .given .1)
 
 same-length-3 : tie.Need-same-length-3
 same-length-3 c = search needs
@@ -46,7 +54,11 @@ same-length-4 : tie.Need-same-length-4
 same-length-4 c = search needs
 
 returns-2 : tie.Need-returns-2
-returns-2 c = declares-as _ _ _ _ _ _ _ _ (λ before q. declaration-directive _ _ before (sym (c .before .before .before .before .before .before .before .before .before .before .at .ensures) ∙ c .before .before .before .before .before .before .before .before .a .given .1)) (c .before .before .before .before .parse-directive .result) (c .before .before .before .before .parse-directive .ensures)
+returns-2 c =
+    let c4 = c .before .before .before .before in
+    let c8 = c4 .before .before .before .before in
+    let c10 = c8 .before .before in
+    declares-as _ _ _ _ _ _ _ _ (λ before q. declaration-directive _ _ before (sym (c10 .at .ensures) ∙ c8 .a .given .1)) (c4 .parse-directive .result) (c4 .parse-directive .ensures)
 
 pub parse-declaration-spec : {M : Type 1} → statement M
 parse-declaration-spec =

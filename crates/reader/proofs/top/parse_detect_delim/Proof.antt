@@ -24,10 +24,15 @@ place-requires : tie.Need-place-requires
 place-requires c κs = search needs
 
 returns : tie.Need-returns
-returns c = λ ws ts before q. past-not _ _ _ (c .before .before .before .before .next .ensures) (pure detectDelim) (arrived-told (c .before .before .enum-told .given .1) (c .before .cause .ensures) (c .place .ensures))
+returns c =
+    let c4 = c .before .before .before .before in
+    λ ws ts before q. past-not _ _ _ (c4 .next .ensures) (pure detectDelim) (arrived-told (c .before .before .enum-told .given .1) (c .before .cause .ensures) (c .place .ensures))
 
 returns-2 : tie.Need-returns-2
-returns-2 c = λ ws ts. detect-declares _ _ _ _ (c .before .before .before .next .ensures) (c .before .arrived .given .1) (c .before .before .before .before .before .pre .1) (c .before .before .before .before .before .pre .0 .lies) _
+returns-2 c =
+    let c3 = c .before .before .before in
+    let c5 = c3 .before .before in
+    λ ws ts. detect-declares _ _ _ _ (c3 .next .ensures) (c .before .arrived .given .1) (c5 .pre .1) (c5 .pre .0 .lies) _
 
 pub parse-detect-delim-spec : {M : Type 1} → statement M
 parse-detect-delim-spec =

@@ -24,13 +24,19 @@ place-requires : tie.Need-place-requires
 place-requires c κs = search needs
 
 returns : tie.Need-returns
-returns c = λ before q. past-not _ _ _ (c .before .before .before .before .next .ensures) (parseExternalDeclaration _) (arrived-told (c .before .before .enum-told .given .1) (c .before .cause .ensures) (c .place .ensures))
+returns c =
+    let c4 = c .before .before .before .before in
+    λ before q. past-not _ _ _ (c4 .next .ensures) (parseExternalDeclaration _) (arrived-told (c .before .before .enum-told .given .1) (c .before .cause .ensures) (c .place .ensures))
 
 start-requires : tie.Need-start-requires
 start-requires c κs = search needs
 
 parse-external-declaration-requires : tie.Need-parse-external-declaration-requires
-parse-external-declaration-requires c κs = (roomy-step (c .before .before .before .before .before .before .before .before .before .before .pre .0) (past-onward _ _ _ (c .before .before .before .before .before .before .next .ensures) (c .before .before .before .before .arrived .given .1) (c .before .before .before .before .before .before .before .before .before .before .pre .1) (c .before .before .before .before .before .before .before .before .before .before .pre .0 .lies)), start-within (roomy-ready (c .before .before .before .before .before .before .before .before .before .before .pre .0)) (c .before .before .start .ensures))
+parse-external-declaration-requires c κs =
+    let c4 = c .before .before .before .before in
+    let c6 = c4 .before .before in
+    let c10 = c6 .before .before .before .before in
+    (roomy-step (c10 .pre .0) (past-onward _ _ _ (c6 .next .ensures) (c4 .arrived .given .1) (c10 .pre .1) (c10 .pre .0 .lies)), start-within (roomy-ready (c10 .pre .0)) (c .before .before .start .ensures))
 
 same-length : tie.Need-same-length
 same-length c = search needs
@@ -39,7 +45,13 @@ same-length-2 : tie.Need-same-length-2
 same-length-2 c = search needs
 
 returns-2 : tie.Need-returns-2
-returns-2 c = rw (← c .before .before .before .before .before .before .before .start .ensures) (external-past _ _ _ _ (c .before .before .before .before .before .before .before .before .before .before .before .next .ensures) (c .before .before .before .before .before .before .before .before .before .arrived .given .1) (c .before .before .before .before .before .before .before .before .before .before .before .before .before .before .before .pre .1) (c .before .before .before .before .before .before .before .before .before .before .before .before .before .before .before .pre .0 .lies) (c .before .before .before .before .before .before .before .start .result) _ _ _ (c .before .before .before .before .parse-external-declaration .result) (c .before .before .before .before .parse-external-declaration .ensures))
+returns-2 c =
+    let c4 = c .before .before .before .before in
+    let c7 = c4 .before .before .before in
+    let c9 = c7 .before .before in
+    let c11 = c9 .before .before in
+    let c15 = c11 .before .before .before .before in
+    rw (← c7 .start .ensures) (external-past _ _ _ _ (c11 .next .ensures) (c9 .arrived .given .1) (c15 .pre .1) (c15 .pre .0 .lies) (c7 .start .result) _ _ _ (c4 .parse-external-declaration .result) (c4 .parse-external-declaration .ensures))
 
 pub parse-external-spec : {M : Type 1} → statement M
 parse-external-spec =

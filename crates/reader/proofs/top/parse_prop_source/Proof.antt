@@ -26,10 +26,17 @@ place-requires : tie.Need-place-requires
 place-requires c κs = search needs
 
 returns : tie.Need-returns
-returns c = past-not _ _ _ (c .before .before .before .before .next .ensures) (parseExternalPropSource (c .before .before .before .before .before .before .before .before .args .start)) (arrived-told (c .before .before .enum-told .given .1) (c .before .cause .ensures) (c .place .ensures))
+returns c =
+    let c4 = c .before .before .before .before in
+    let c8 = c4 .before .before .before .before in
+    past-not _ _ _ (c4 .next .ensures) (parseExternalPropSource (c8 .args .start)) (arrived-told (c .before .before .enum-told .given .1) (c .before .cause .ensures) (c .place .ensures))
 
 parse-from-requires : tie.Need-parse-from-requires
-parse-from-requires c κs = (past-ready _ _ _ (c .before .before .before .before .before .next .ensures) (c .before .before .before .arrived .given .1) (c .before .before .before .before .before .before .before .before .before .pre .1) (c .before .before .before .before .before .before .before .before .before .pre .0 .lies) (c .before .before .before .before .before .before .before .before .before .pre .0), c .before .before .before .before .before .before .before .before .before .pre .2)
+parse-from-requires c κs =
+    let c3 = c .before .before .before in
+    let c5 = c3 .before .before in
+    let c9 = c5 .before .before .before .before in
+    (past-ready _ _ _ (c5 .next .ensures) (c3 .arrived .given .1) (c9 .pre .1) (c9 .pre .0 .lies) (c9 .pre .0), c9 .pre .2)
 
 same-length : tie.Need-same-length
 same-length c = search needs
@@ -38,7 +45,12 @@ same-length-2 : tie.Need-same-length-2
 same-length-2 c = search needs
 
 returns-2 : tie.Need-returns-2
-returns-2 c = parses-past _ _ _ (c .before .before .before .before .before .before .before .before .before .before .next .ensures) (c .before .before .before .before .before .before .before .before .arrived .given .1) (c .before .before .before .before .before .before .before .before .before .before .before .before .before .before .pre .1) (c .before .before .before .before .before .before .before .before .before .before .before .before .before .before .pre .0 .lies) (parseExternalPropSource (c .before .before .before .before .before .before .before .before .before .before .before .before .before .before .args .start)) (nodesOf declarationBranch) _ _ _ (c .before .before .before .before .parse-from .result) (parses-as (propSourceBy (c .before .before .before .before .before .before .before .before .before .before .before .before .before .before .args .start)) (nodesOf (fromBranch 19 (c .before .before .before .before .before .before .before .before .before .before .before .before .before .before .args .start))) (nodesOf declarationBranch) (prop-source-nodes (c .before .before .before .before .before .before .before .before .before .before .before .before .before .before .args .start)) _ _ (prop-source-is (c .before .before .before .before .before .before .before .before .before .before .before .before .before .before .args .start) _) _ _ _ _ _ (c .before .before .before .before .parse-from .result) (c .before .before .before .before .parse-from .ensures))
+returns-2 c =
+    let c4 = c .before .before .before .before in
+    let c8 = c4 .before .before .before .before in
+    let c10 = c8 .before .before in
+    let c14 = c10 .before .before .before .before in
+    parses-past _ _ _ (c10 .next .ensures) (c8 .arrived .given .1) (c14 .pre .1) (c14 .pre .0 .lies) (parseExternalPropSource (c14 .args .start)) (nodesOf declarationBranch) _ _ _ (c4 .parse-from .result) (parses-as (propSourceBy (c14 .args .start)) (nodesOf (fromBranch 19 (c14 .args .start))) (nodesOf declarationBranch) (prop-source-nodes (c14 .args .start)) _ _ (prop-source-is (c14 .args .start) _) _ _ _ _ _ (c4 .parse-from .result) (c4 .parse-from .ensures))
 
 pub parse-prop-source-spec : {M : Type 1} → statement M
 parse-prop-source-spec =

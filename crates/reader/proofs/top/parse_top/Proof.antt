@@ -42,10 +42,18 @@ start-requires : tie.Need-start-requires
 start-requires c κs = search needs
 
 returns-2 : tie.Need-returns-2
-returns-2 c = past-at _ _ _ (c .before .before .before .before .before .before .before .next .ensures) (c .before .before .before .before .before .arrived .given .1) topAt ∙ top-nameless _ _ (sym (c .before .before .before .name .ensures) ∙ c .before .enum-told3 .given .1) (c .start .ensures)
+returns-2 c =
+    let c3 = c .before .before .before in
+    let c5 = c3 .before .before in
+    let c7 = c5 .before .before in
+    past-at _ _ _ (c7 .next .ensures) (c5 .arrived .given .1) topAt ∙ top-nameless _ _ (sym (c3 .name .ensures) ∙ c .before .enum-told3 .given .1) (c .start .ensures)
 
 parse-rule-requires : tie.Need-parse-rule-requires
-parse-rule-requires c κs = past-ready _ _ _ (c .before .before .before .before .before .before .before .before .next .ensures) (c .before .before .before .before .before .before .arrived .given .1) (c .before .before .before .before .before .before .before .before .before .before .before .before .pre .1) (c .before .before .before .before .before .before .before .before .before .before .before .before .pre .0 .lies) (c .before .before .before .before .before .before .before .before .before .before .before .before .pre .0)
+parse-rule-requires c κs =
+    let c6 = c .before .before .before .before .before .before in
+    let c8 = c6 .before .before in
+    let c12 = c8 .before .before .before .before in
+    past-ready _ _ _ (c8 .next .ensures) (c6 .arrived .given .1) (c12 .pre .1) (c12 .pre .0 .lies) (c12 .pre .0)
 
 same-length : tie.Need-same-length
 same-length c = search needs
@@ -54,7 +62,14 @@ same-length-2 : tie.Need-same-length-2
 same-length-2 c = search needs
 
 returns-3 : tie.Need-returns-3
-returns-3 c = parses-past _ _ _ (c .before .before .before .before .before .before .before .before .before .before .before .before .before .next .ensures) (c .before .before .before .before .before .before .before .before .before .before .before .arrived .given .1) (c .before .before .before .before .before .before .before .before .before .before .before .before .before .before .before .before .before .pre .1) (c .before .before .before .before .before .before .before .before .before .before .before .before .before .before .before .before .before .pre .0 .lies) topAt (nodesOf declarationBranch) _ _ _ (c .before .before .before .before .parse-rule .result) (parses-as Declaration.topRule (nodesOf (ruleBranch 2)) (nodesOf declarationBranch) top-nodes _ _ (top-named _ _ (sym (c .before .before .before .before .before .before .before .before .before .name .ensures) ∙ c .before .before .before .before .before .before .before .enum-told2 .given .1)) _ _ _ _ _ (c .before .before .before .before .parse-rule .result) (c .before .before .before .before .parse-rule .ensures))
+returns-3 c =
+    let c4 = c .before .before .before .before in
+    let c7 = c4 .before .before .before in
+    let c9 = c7 .before .before in
+    let c11 = c9 .before .before in
+    let c13 = c11 .before .before in
+    let c17 = c13 .before .before .before .before in
+    parses-past _ _ _ (c13 .next .ensures) (c11 .arrived .given .1) (c17 .pre .1) (c17 .pre .0 .lies) topAt (nodesOf declarationBranch) _ _ _ (c4 .parse-rule .result) (parses-as Declaration.topRule (nodesOf (ruleBranch 2)) (nodesOf declarationBranch) top-nodes _ _ (top-named _ _ (sym (c9 .name .ensures) ∙ c7 .enum-told2 .given .1)) _ _ _ _ _ (c4 .parse-rule .result) (c4 .parse-rule .ensures))
 
 pub parse-top-spec : {M : Type 1} → statement M
 parse-top-spec =

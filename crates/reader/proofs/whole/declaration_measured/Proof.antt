@@ -36,34 +36,58 @@ place-requires : tie.Need-place-requires
 place-requires c κs = search needs
 
 mul-n : tie.Need-mul-n
-mul-n c = let k = place-in _ (c .place .ensures) in let a = c .before .before .before .before .before .before .before .before .before .before .before .before .before .before .before .before .pre .words-all in let b = c .before .before .before .before .before .before .before .before .before .before .before .before .before .before .before .before .pre .bytes-all in omega arith
+mul-n c =
+    let c16 = c .before .before .before .before .before .before .before .before .before .before .before .before .before .before .before .before in
+    let k = place-in _ (c .place .ensures) in let a = c16 .pre .words-all in let b = c16 .pre .bytes-all in omega arith
 
 slice-read-n : tie.Need-slice-read-n
-slice-read-n c = let k = place-in _ (c .before .place .ensures) in let a = c .before .before .before .before .before .before .before .before .before .before .before .before .before .before .before .before .before .pre .words-all in let b = c .before .before .before .before .before .before .before .before .before .before .before .before .before .before .before .before .before .pre .bytes-all in omega arith
+slice-read-n c =
+    let c17 = c .before .before .before .before .before .before .before .before .before .before .before .before .before .before .before .before .before in
+    let k = place-in _ (c .before .place .ensures) in let a = c17 .pre .words-all in let b = c17 .pre .bytes-all in omega arith
 
 mul-x : tie.Need-mul-x
-mul-x c = let k = place-in _ (c .before .place .ensures) in let a = c .before .before .before .before .before .before .before .before .before .before .before .before .before .before .before .before .before .pre .words-all in let b = c .before .before .before .before .before .before .before .before .before .before .before .before .before .before .before .before .before .pre .bytes-all in omega arith
+mul-x c =
+    let c17 = c .before .before .before .before .before .before .before .before .before .before .before .before .before .before .before .before .before in
+    let k = place-in _ (c .before .place .ensures) in let a = c17 .pre .words-all in let b = c17 .pre .bytes-all in omega arith
 
 slice-read-x : tie.Need-slice-read-x
-slice-read-x c = let k = place-in _ (c .before .before .place .ensures) in let a = c .before .before .before .before .before .before .before .before .before .before .before .before .before .before .before .before .before .before .pre .words-all in let b = c .before .before .before .before .before .before .before .before .before .before .before .before .before .before .before .before .before .before .pre .bytes-all in omega arith
+slice-read-x c =
+    let c18 = c .before .before .before .before .before .before .before .before .before .before .before .before .before .before .before .before .before .before in
+    let k = place-in _ (c .before .before .place .ensures) in let a = c18 .pre .words-all in let b = c18 .pre .bytes-all in omega arith
 
 add-words : tie.Need-add-words
-add-words c = let j = declared-at _ _ _ _ _ _ (c .before .before .before .before .before .before .before .before .before .before .parse-declaration .result) (c .before .before .before .before .before .before .before .before .before .before .parse-declaration .ensures) (c .before .before .before .before .u .given .1) in let k = placed-small j (c .before .before .before .before .before .before .before .before .before .before .before .before .before .before .before .before .before .before .pre) (c .before .before .place .result) .0 in omega arith
+add-words c =
+    let c4 = c .before .before .before .before in
+    let c10 = c4 .before .before .before .before .before .before in
+    let c18 = c10 .before .before .before .before .before .before .before .before in
+    let j = declared-at _ _ _ _ _ _ (c10 .parse-declaration .result) (c10 .parse-declaration .ensures) (c4 .u .given .1) in let k = placed-small j (c18 .pre) (c .before .before .place .result) .0 in omega arith
 
 mul-words : tie.Need-mul-words
-mul-words c = let k = place-in _ (c .before .before .place .ensures) in let a = c .before .before .before .before .before .before .before .before .before .before .before .before .before .before .before .before .before .before .pre .words-all in let b = c .before .before .before .before .before .before .before .before .before .before .before .before .before .before .before .before .before .before .pre .bytes-all in omega arith
+mul-words c =
+    let c18 = c .before .before .before .before .before .before .before .before .before .before .before .before .before .before .before .before .before .before in
+    let k = place-in _ (c .before .before .place .ensures) in let a = c18 .pre .words-all in let b = c18 .pre .bytes-all in omega arith
 
 slice-write-words : tie.Need-slice-write-words
-slice-write-words c = let k = place-in _ (c .before .before .place .ensures) in let a = c .before .before .before .before .before .before .before .before .before .before .before .before .before .before .before .before .before .before .pre .words-all in let b = c .before .before .before .before .before .before .before .before .before .before .before .before .before .before .before .before .before .before .pre .bytes-all in omega arith
+slice-write-words c =
+    let c18 = c .before .before .before .before .before .before .before .before .before .before .before .before .before .before .before .before .before .before in
+    let k = place-in _ (c .before .before .place .ensures) in let a = c18 .pre .words-all in let b = c18 .pre .bytes-all in omega arith
 
 add-bytes : tie.Need-add-bytes
-add-bytes c = let j = declared-at _ _ _ _ _ _ (c .before .before .before .before .before .before .before .before .before .before .parse-declaration .result) (c .before .before .before .before .before .before .before .before .before .before .parse-declaration .ensures) (c .before .before .before .before .u .given .1) in let k = placed-small j (c .before .before .before .before .before .before .before .before .before .before .before .before .before .before .before .before .before .before .pre) (c .before .before .place .result) .1 in omega arith
+add-bytes c =
+    let c4 = c .before .before .before .before in
+    let c10 = c4 .before .before .before .before .before .before in
+    let c18 = c10 .before .before .before .before .before .before .before .before in
+    let j = declared-at _ _ _ _ _ _ (c10 .parse-declaration .result) (c10 .parse-declaration .ensures) (c4 .u .given .1) in let k = placed-small j (c18 .pre) (c .before .before .place .result) .1 in omega arith
 
 mul-bytes : tie.Need-mul-bytes
-mul-bytes c = let k = place-in _ (c .before .before .place .ensures) in let a = c .before .before .before .before .before .before .before .before .before .before .before .before .before .before .before .before .before .before .pre .words-all in let b = c .before .before .before .before .before .before .before .before .before .before .before .before .before .before .before .before .before .before .pre .bytes-all in omega arith
+mul-bytes c =
+    let c18 = c .before .before .before .before .before .before .before .before .before .before .before .before .before .before .before .before .before .before in
+    let k = place-in _ (c .before .before .place .ensures) in let a = c18 .pre .words-all in let b = c18 .pre .bytes-all in omega arith
 
 slice-write-bytes : tie.Need-slice-write-bytes
-slice-write-bytes c = let k = place-in _ (c .before .before .place .ensures) in let a = c .before .before .before .before .before .before .before .before .before .before .before .before .before .before .before .before .before .before .pre .words-all in let b = c .before .before .before .before .before .before .before .before .before .before .before .before .before .before .before .before .before .before .pre .bytes-all in omega arith
+slice-write-bytes c =
+    let c18 = c .before .before .before .before .before .before .before .before .before .before .before .before .before .before .before .before .before .before in
+    let k = place-in _ (c .before .before .place .ensures) in let a = c18 .pre .words-all in let b = c18 .pre .bytes-all in omega arith
 
 same-length : tie.Need-same-length
 same-length c = search needs
@@ -78,10 +102,17 @@ same-length-4 : tie.Need-same-length-4
 same-length-4 c = search needs
 
 returns : tie.Need-returns
-returns c = let j = declared-at _ _ _ _ _ _ (c .before .before .before .before .before .before .before .before .before .before .before .before .parse-declaration .result) (c .before .before .before .before .before .before .before .before .before .before .before .before .parse-declaration .ensures) (c .before .before .before .before .before .before .u .given .1) in let v = no-words (j .lays .stores) refl (c .before .before .before .before .before .before .before .before .before .before .before .before .before .before .before .before .before .before .before .before .args .records .now) in let w = no-texts (j .lays .stores) refl (c .before .before .before .before .before .before .before .before .before .before .before .before .before .before .before .before .before .before .before .before .args .texts .now) in placed-none j refl refl (c .before .before .before .before .place .ensures) (sym (ap length v) ∙ (c .before .if1 .taken)) (sym (ap length w) ∙ is-zero _ (c .if2 .taken)) v w refl refl
+returns c =
+    let c4 = c .before .before .before .before in
+    let c6 = c4 .before .before in
+    let c12 = c6 .before .before .before .before .before .before in
+    let c20 = c12 .before .before .before .before .before .before .before .before in
+    let j = declared-at _ _ _ _ _ _ (c12 .parse-declaration .result) (c12 .parse-declaration .ensures) (c6 .u .given .1) in let v = no-words (j .lays .stores) refl (c20 .args .records .now) in let w = no-texts (j .lays .stores) refl (c20 .args .texts .now) in placed-none j refl refl (c4 .place .ensures) (sym (ap length v) ∙ (c .before .if1 .taken)) (sym (ap length w) ∙ is-zero _ (c .if2 .taken)) v w refl refl
 
 parse-declaration-requires-2 : tie.Need-parse-declaration-requires-2
-parse-declaration-requires-2 c κs = begins-roomy (c .before .before .before .before .before .before .before .before .before .before .before .before .before .before .before .before .before .before .before .before .before .pre) _
+parse-declaration-requires-2 c κs =
+    let c21 = c .before .before .before .before .before .before .before .before .before .before .before .before .before .before .before .before .before .before .before .before .before in
+    begins-roomy (c21 .pre) _
 
 enum-known-cause-2 : tie.Need-enum-known-cause-2
 enum-known-cause-2 c = search needs
@@ -96,7 +127,9 @@ same-length-6 : tie.Need-same-length-6
 same-length-6 c = search needs
 
 returns-2 : tie.Need-returns-2
-returns-2 c = declared-not _ _ _ _ _ _ (c .before .before .before .before .before .before .before .parse-declaration .result) (c .before .before .before .before .before .before .before .parse-declaration .ensures) (c .before .cause .given .1)
+returns-2 c =
+    let c7 = c .before .before .before .before .before .before .before in
+    declared-not _ _ _ _ _ _ (c7 .parse-declaration .result) (c7 .parse-declaration .ensures) (c .before .cause .given .1)
 
 same-length-7 : tie.Need-same-length-7
 same-length-7 c = search needs
@@ -111,7 +144,9 @@ same-length-10 : tie.Need-same-length-10
 same-length-10 c = search needs
 
 returns-3 : tie.Need-returns-3
-returns-3 c = declared-not _ _ _ _ _ _ (c .before .before .before .before .before .before .before .parse-declaration2 .result) (c .before .before .before .before .before .before .before .parse-declaration2 .ensures) (c .before .cause2 .given .1)
+returns-3 c =
+    let c7 = c .before .before .before .before .before .before .before in
+    declared-not _ _ _ _ _ _ (c7 .parse-declaration2 .result) (c7 .parse-declaration2 .ensures) (c .before .cause2 .given .1)
 
 same-length-11 : tie.Need-same-length-11
 same-length-11 c = search needs
@@ -126,7 +161,12 @@ same-length-14 : tie.Need-same-length-14
 same-length-14 c = search needs
 
 returns-4 : tie.Need-returns-4
-returns-4 c = let j = declared-at _ _ _ _ _ _ (c .before .before .before .before .before .before .before .before .before .before .before .before .before .before .before .before .before .before .before .before .parse-declaration .result) (c .before .before .before .before .before .before .before .before .before .before .before .before .before .before .before .before .before .before .before .before .parse-declaration .ensures) (c .before .before .before .before .before .before .before .before .before .before .before .before .before .before .u .given .1) in let g = declared-at _ _ _ _ _ _ (c .before .before .before .before .before .before .parse-declaration2 .result) (c .before .before .before .before .before .before .parse-declaration2 .ensures) (c .enum-told .given .1) in placed-some j refl refl (c .before .before .before .before .before .before .before .before .before .before .before .before .place .ensures) g (no-words (j .lays .stores) refl _) (no-texts (j .lays .stores) refl _) refl refl
+returns-4 c =
+    let c6 = c .before .before .before .before .before .before in
+    let c12 = c6 .before .before .before .before .before .before in
+    let c14 = c12 .before .before in
+    let c20 = c14 .before .before .before .before .before .before in
+    let j = declared-at _ _ _ _ _ _ (c20 .parse-declaration .result) (c20 .parse-declaration .ensures) (c14 .u .given .1) in let g = declared-at _ _ _ _ _ _ (c6 .parse-declaration2 .result) (c6 .parse-declaration2 .ensures) (c .enum-told .given .1) in placed-some j refl refl (c12 .place .ensures) g (no-words (j .lays .stores) refl _) (no-texts (j .lays .stores) refl _) refl refl
 
 pub declaration-measured-spec : {M : Type 1} → statement M
 declaration-measured-spec =

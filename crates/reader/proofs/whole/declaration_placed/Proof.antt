@@ -2,7 +2,6 @@
 -- Assumes nothing.
 use native.Mathlib.Omega.{arith}
 use mathlib.Core.Path.{refl}
-use lib.ListN.{length}
 use Rattle.reader.proofs.WholeLaws.{declared-at, declared-not}
 use Rattle.reader.proofs.Placing.{place-in, begins-roomy, once-on, placed-once}
 use borrow.Author.Needs.{needs}
@@ -34,16 +33,24 @@ place-requires : tie.Need-place-requires
 place-requires c κs = search needs
 
 mul-n : tie.Need-mul-n
-mul-n c = let k = place-in _ (c .place .ensures) in let a = c .before .before .before .before .before .before .before .before .pre .words-all in let b = c .before .before .before .before .before .before .before .before .pre .bytes-all in omega arith
+mul-n c =
+    let c8 = c .before .before .before .before .before .before .before .before in
+    let k = place-in _ (c .place .ensures) in let a = c8 .pre .words-all in let b = c8 .pre .bytes-all in omega arith
 
 slice-read-n : tie.Need-slice-read-n
-slice-read-n c = let k = place-in _ (c .before .place .ensures) in let a = c .before .before .before .before .before .before .before .before .before .pre .words-all in let b = c .before .before .before .before .before .before .before .before .before .pre .bytes-all in omega arith
+slice-read-n c =
+    let c9 = c .before .before .before .before .before .before .before .before .before in
+    let k = place-in _ (c .before .place .ensures) in let a = c9 .pre .words-all in let b = c9 .pre .bytes-all in omega arith
 
 mul-x : tie.Need-mul-x
-mul-x c = let k = place-in _ (c .before .place .ensures) in let a = c .before .before .before .before .before .before .before .before .before .pre .words-all in let b = c .before .before .before .before .before .before .before .before .before .pre .bytes-all in omega arith
+mul-x c =
+    let c9 = c .before .before .before .before .before .before .before .before .before in
+    let k = place-in _ (c .before .place .ensures) in let a = c9 .pre .words-all in let b = c9 .pre .bytes-all in omega arith
 
 slice-read-x : tie.Need-slice-read-x
-slice-read-x c = let k = place-in _ (c .before .before .place .ensures) in let a = c .before .before .before .before .before .before .before .before .before .before .pre .words-all in let b = c .before .before .before .before .before .before .before .before .before .before .pre .bytes-all in omega arith
+slice-read-x c =
+    let c10 = c .before .before .before .before .before .before .before .before .before .before in
+    let k = place-in _ (c .before .before .place .ensures) in let a = c10 .pre .words-all in let b = c10 .pre .bytes-all in omega arith
 
 parse-declaration-requires : tie.Need-parse-declaration-requires
 parse-declaration-requires c κs = begins-roomy (c .before .before .before .before .before .before .before .before .before .before .before .before .pre) _
@@ -55,22 +62,38 @@ enum-known-u : tie.Need-enum-known-u
 enum-known-u c = search needs
 
 mul-words : tie.Need-mul-words
-mul-words c = let k = place-in _ (c .before .before .before .before .before .before .before .before .before .before .before .before .place .ensures) in let a = c .before .before .before .before .before .before .before .before .before .before .before .before .before .before .before .before .before .before .before .before .pre .words-all in let b = c .before .before .before .before .before .before .before .before .before .before .before .before .before .before .before .before .before .before .before .before .pre .bytes-all in omega arith
+mul-words c =
+    let c12 = c .before .before .before .before .before .before .before .before .before .before .before .before in
+    let c20 = c12 .before .before .before .before .before .before .before .before in
+    let k = place-in _ (c12 .place .ensures) in let a = c20 .pre .words-all in let b = c20 .pre .bytes-all in omega arith
 
 slice-write-words : tie.Need-slice-write-words
-slice-write-words c = let k = place-in _ (c .before .before .before .before .before .before .before .before .before .before .before .before .place .ensures) in let a = c .before .before .before .before .before .before .before .before .before .before .before .before .before .before .before .before .before .before .before .before .pre .words-all in let b = c .before .before .before .before .before .before .before .before .before .before .before .before .before .before .before .before .before .before .before .before .pre .bytes-all in omega arith
+slice-write-words c =
+    let c12 = c .before .before .before .before .before .before .before .before .before .before .before .before in
+    let c20 = c12 .before .before .before .before .before .before .before .before in
+    let k = place-in _ (c12 .place .ensures) in let a = c20 .pre .words-all in let b = c20 .pre .bytes-all in omega arith
 
 mul-bytes : tie.Need-mul-bytes
-mul-bytes c = let k = place-in _ (c .before .before .before .before .before .before .before .before .before .before .before .before .place .ensures) in let a = c .before .before .before .before .before .before .before .before .before .before .before .before .before .before .before .before .before .before .before .before .pre .words-all in let b = c .before .before .before .before .before .before .before .before .before .before .before .before .before .before .before .before .before .before .before .before .pre .bytes-all in omega arith
+mul-bytes c =
+    let c12 = c .before .before .before .before .before .before .before .before .before .before .before .before in
+    let c20 = c12 .before .before .before .before .before .before .before .before in
+    let k = place-in _ (c12 .place .ensures) in let a = c20 .pre .words-all in let b = c20 .pre .bytes-all in omega arith
 
 slice-write-bytes : tie.Need-slice-write-bytes
-slice-write-bytes c = let k = place-in _ (c .before .before .before .before .before .before .before .before .before .before .before .before .place .ensures) in let a = c .before .before .before .before .before .before .before .before .before .before .before .before .before .before .before .before .before .before .before .before .pre .words-all in let b = c .before .before .before .before .before .before .before .before .before .before .before .before .before .before .before .before .before .before .before .before .pre .bytes-all in omega arith
+slice-write-bytes c =
+    let c12 = c .before .before .before .before .before .before .before .before .before .before .before .before in
+    let c20 = c12 .before .before .before .before .before .before .before .before in
+    let k = place-in _ (c12 .place .ensures) in let a = c20 .pre .words-all in let b = c20 .pre .bytes-all in omega arith
 
 sub-t38 : tie.Need-sub-t38
-sub-t38 c = let j = declared-at _ _ _ _ _ _ (c .before .before .before .before .before .before .before .parse-declaration .result) (c .before .before .before .before .before .before .before .parse-declaration .ensures) (c .before .u .given .1) in let o = once-on j in omega arith
+sub-t38 c =
+    let c7 = c .before .before .before .before .before .before .before in
+    let j = declared-at _ _ _ _ _ _ (c7 .parse-declaration .result) (c7 .parse-declaration .ensures) (c .before .u .given .1) in let o = once-on j in omega arith
 
 sub-t41 : tie.Need-sub-t41
-sub-t41 c = let j = declared-at _ _ _ _ _ _ (c .before .before .before .before .before .before .before .parse-declaration .result) (c .before .before .before .before .before .before .before .parse-declaration .ensures) (c .before .u .given .1) in let o = once-on j in omega arith
+sub-t41 c =
+    let c7 = c .before .before .before .before .before .before .before in
+    let j = declared-at _ _ _ _ _ _ (c7 .parse-declaration .result) (c7 .parse-declaration .ensures) (c .before .u .given .1) in let o = once-on j in omega arith
 
 same-length-5 : tie.Need-same-length-5
 same-length-5 c = search needs
@@ -79,7 +102,9 @@ same-length-6 : tie.Need-same-length-6
 same-length-6 c = search needs
 
 returns-2 : tie.Need-returns-2
-returns-2 c = declared-not _ _ _ _ _ _ (c .before .before .before .before .before .before .before .parse-declaration .result) (c .before .before .before .before .before .before .before .parse-declaration .ensures) (c .before .cause .given .1)
+returns-2 c =
+    let c7 = c .before .before .before .before .before .before .before in
+    declared-not _ _ _ _ _ _ (c7 .parse-declaration .result) (c7 .parse-declaration .ensures) (c .before .cause .given .1)
 
 same-length-7 : tie.Need-same-length-7
 same-length-7 c = search needs
@@ -94,7 +119,12 @@ same-length-10 : tie.Need-same-length-10
 same-length-10 c = search needs
 
 returns-3 : tie.Need-returns-3
-returns-3 c = let j = declared-at _ _ _ _ _ _ (c .before .before .before .before .before .before .before .parse-declaration .result) (c .before .before .before .before .before .before .before .parse-declaration .ensures) (c .before .u .given .1) in placed-once j (c .before .before .before .before .before .before .before .before .before .before .before .before .before .before .kind-ahead .ensures) (c .before .before .before .before .before .before .before .before .before .before .before .before .before .if1 .left) (c .before .before .before .before .before .before .before .before .before .before .before .before .place .ensures) refl refl refl refl
+returns-3 c =
+    let c7 = c .before .before .before .before .before .before .before in
+    let c12 = c7 .before .before .before .before .before in
+    let c13 = c12 .before in
+    let c14 = c13 .before in
+    let j = declared-at _ _ _ _ _ _ (c7 .parse-declaration .result) (c7 .parse-declaration .ensures) (c .before .u .given .1) in placed-once j (c14 .kind-ahead .ensures) (c13 .if1 .left) (c12 .place .ensures) refl refl refl refl
 
 pub declaration-placed-spec : {M : Type 1} → statement M
 declaration-placed-spec =

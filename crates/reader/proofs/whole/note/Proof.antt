@@ -29,7 +29,13 @@ latest-requires : tie.Need-latest-requires
 latest-requires c κs = search needs
 
 returns : tie.Need-returns
-returns c = rw (c .before .before .before .before .before .before .before .either .ensures, c .before .before .before .before .before .before .either2 .ensures, c .before .before .before .before .before .either3 .ensures, c .before .before .before .before .either4 .ensures, c .before .before .before .either5 .ensures, c .before .before .either6 .ensures, c .before .either7 .ensures, c .latest .ensures)
+returns c =
+    let c3 = c .before .before .before in
+    let c4 = c3 .before in
+    let c5 = c4 .before in
+    let c6 = c5 .before in
+    let c7 = c6 .before in
+    rw (c7 .either .ensures, c6 .either2 .ensures, c5 .either3 .ensures, c4 .either4 .ensures, c3 .either5 .ensures, c .before .before .either6 .ensures, c .before .either7 .ensures, c .latest .ensures)
 
 pub note-spec : {M : Type 1} → statement M
 note-spec =

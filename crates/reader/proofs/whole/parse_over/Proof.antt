@@ -23,7 +23,9 @@ slice-aggregate-pass-2 : tie.Need-slice-aggregate-pass-2
 slice-aggregate-pass-2 c = search needs
 
 pass-requires : tie.Need-pass-requires
-pass-requires c κs = first-begins (c .before .before .before .before .before .before .before .before .before .pre .1) (c .before .before .before .before .before .before .before .before .before .pre .0) (c .before .before .before .before .before .before .before .before .before .pre .2) (c .before .before .before .before .before .before .before .before .before .pre .3)
+pass-requires c κs =
+    let c9 = c .before .before .before .before .before .before .before .before .before in
+    first-begins (c9 .pre .1) (c9 .pre .0) (c9 .pre .2) (c9 .pre .3)
 
 enum-known-cause : tie.Need-enum-known-cause
 enum-known-cause c = search needs
@@ -47,7 +49,11 @@ same-length-4 : tie.Need-same-length-4
 same-length-4 c = search needs
 
 returns : tie.Need-returns
-returns c = let g = passed-at _ _ _ _ _ _ _ _ _ _ (c .before .before .before .before .before .before .before .before .before .before .before .before .before .before .pass .result) (c .before .before .before .before .before .before .before .before .before .before .before .before .before .before .pass .ensures) (c .before .before .before .before .last .given .1) in (stopped-top (c .before .before .before .before .before .before .before .before .before .before .before .before .before .before .before .before .before .before .before .before .before .before .before .before .pre .1) g _ _ (c .before .if1 .taken) (c .start .ensures), no-words-yet (c .before .before .before .before .before .before .before .before .before .before .before .before .before .before .before .before .before .before .before .before .before .before .before .before .pre .1) g refl _, no-texts-yet (c .before .before .before .before .before .before .before .before .before .before .before .before .before .before .before .before .before .before .before .before .before .before .before .before .pre .1) g refl _)
+returns c =
+    let c4 = c .before .before .before .before in
+    let c14 = c4 .before .before .before .before .before .before .before .before .before .before in
+    let c24 = c14 .before .before .before .before .before .before .before .before .before .before in
+    let g = passed-at _ _ _ _ _ _ _ _ _ _ (c14 .pass .result) (c14 .pass .ensures) (c4 .last .given .1) in (stopped-top (c24 .pre .1) g _ _ (c .before .if1 .taken) (c .start .ensures), no-words-yet (c24 .pre .1) g refl _, no-texts-yet (c24 .pre .1) g refl _)
 
 slice-relend-prefix-dialects : tie.Need-slice-relend-prefix-dialects
 slice-relend-prefix-dialects c = search needs
@@ -62,7 +68,11 @@ slice-aggregate-dialects-2 : tie.Need-slice-aggregate-dialects-2
 slice-aggregate-dialects-2 c = search needs
 
 dialects-requires : tie.Need-dialects-requires
-dialects-requires c κs = let g = passed-at _ _ _ _ _ _ _ _ _ _ (c .before .before .before .before .before .before .before .before .before .before .before .before .before .before .before .pass .result) (c .before .before .before .before .before .before .before .before .before .before .before .before .before .before .before .pass .ensures) (c .before .before .before .before .before .last .given .1) in let z = measured-small (c .before .before .before .before .before .before .before .before .before .before .before .before .before .before .before .before .before .before .before .before .before .before .before .before .before .pre .1) g (c .before .before .before .before .before .before .before .before .before .before .before .before .before .before .before .before .before .before .before .before .before .before .before .before .before .pre .0) in (measured-names (c .before .before .before .before .before .before .before .before .before .before .before .before .before .before .before .before .before .before .before .before .before .before .before .before .before .pre .1) g, c .before .before .before .before .before .before .before .before .before .before .before .before .before .before .before .before .before .before .before .before .before .before .before .before .before .pre .0, z .0, z .1)
+dialects-requires c κs =
+    let c5 = c .before .before .before .before .before in
+    let c15 = c5 .before .before .before .before .before .before .before .before .before .before in
+    let c25 = c15 .before .before .before .before .before .before .before .before .before .before in
+    let g = passed-at _ _ _ _ _ _ _ _ _ _ (c15 .pass .result) (c15 .pass .ensures) (c5 .last .given .1) in let z = measured-small (c25 .pre .1) g (c25 .pre .0) in (measured-names (c25 .pre .1) g, c25 .pre .0, z .0, z .1)
 
 enum-known-cause-2 : tie.Need-enum-known-cause-2
 enum-known-cause-2 c = search needs
@@ -71,7 +81,12 @@ enum-known-m : tie.Need-enum-known-m
 enum-known-m c = search needs
 
 add-if2 : tie.Need-add-if2
-add-if2 c = let g = passed-at _ _ _ _ _ _ _ _ _ _ (c .before .before .before .before .before .before .before .before .before .before .before .before .before .before .before .before .before .before .before .before .before .before .before .pass .result) (c .before .before .before .before .before .before .before .before .before .before .before .before .before .before .before .before .before .before .before .before .before .before .before .pass .ensures) (c .before .before .before .before .before .before .before .before .before .before .before .before .before .last .given .1) in let d = named-done (c .before .before .before .before .before .before .before .before .before .before .before .before .before .before .before .before .before .before .before .before .before .before .before .before .before .before .before .before .before .before .before .before .before .pre .1) g _ _ _ (c .before .before .before .before .before .before .before .dialects .result) (c .before .before .before .before .before .before .before .dialects .ensures) (c .before .m .given .1) in let k = measured-fits (c .before .before .before .before .before .before .before .before .before .before .before .before .before .before .before .before .before .before .before .before .before .before .before .before .before .before .before .before .before .before .before .before .before .pre .1) g d (c .before .before .before .before .before .before .before .before .before .before .before .before .before .before .before .before .before .before .before .before .before .before .before .before .before .before .before .before .before .before .before .before .before .pre .0) .0 in omega arith
+add-if2 c =
+    let c7 = c .before .before .before .before .before .before .before in
+    let c13 = c7 .before .before .before .before .before .before in
+    let c23 = c13 .before .before .before .before .before .before .before .before .before .before in
+    let c33 = c23 .before .before .before .before .before .before .before .before .before .before in
+    let g = passed-at _ _ _ _ _ _ _ _ _ _ (c23 .pass .result) (c23 .pass .ensures) (c13 .last .given .1) in let d = named-done (c33 .pre .1) g _ _ _ (c7 .dialects .result) (c7 .dialects .ensures) (c .before .m .given .1) in let k = measured-fits (c33 .pre .1) g d (c33 .pre .0) .0 in omega arith
 
 same-length-5 : tie.Need-same-length-5
 same-length-5 c = search needs
@@ -86,7 +101,13 @@ same-length-8 : tie.Need-same-length-8
 same-length-8 c = search needs
 
 returns-2 : tie.Need-returns-2
-returns-2 c = let g = passed-at _ _ _ _ _ _ _ _ _ _ (c .before .before .before .before .before .before .before .before .before .before .before .before .before .before .before .before .before .before .before .before .before .before .before .before .pass .result) (c .before .before .before .before .before .before .before .before .before .before .before .before .before .before .before .before .before .before .before .before .before .before .before .before .pass .ensures) (c .before .before .before .before .before .before .before .before .before .before .before .before .before .before .last .given .1) in let d = named-done (c .before .before .before .before .before .before .before .before .before .before .before .before .before .before .before .before .before .before .before .before .before .before .before .before .before .before .before .before .before .before .before .before .before .before .pre .1) g _ _ _ (c .before .before .before .before .before .before .before .before .dialects .result) (c .before .before .before .before .before .before .before .before .dialects .ensures) (c .before .before .m .given .1) in stopped-words (c .before .before .before .before .before .before .before .before .before .before .before .before .before .before .before .before .before .before .before .before .before .before .before .before .before .before .before .before .before .before .before .before .before .before .pre .1) g d (c .before .before .before .before .before .before .before .before .before .before .before .if1 .left) (no-words (d .stores) refl _ ∙ no-words-yet (c .before .before .before .before .before .before .before .before .before .before .before .before .before .before .before .before .before .before .before .before .before .before .before .before .before .before .before .before .before .before .before .before .before .before .pre .1) g refl _) (no-texts (d .stores) refl _ ∙ no-texts-yet (c .before .before .before .before .before .before .before .before .before .before .before .before .before .before .before .before .before .before .before .before .before .before .before .before .before .before .before .before .before .before .before .before .before .before .pre .1) g refl _) (c .if2 .taken)
+returns-2 c =
+    let c8 = c .before .before .before .before .before .before .before .before in
+    let c11 = c8 .before .before .before in
+    let c14 = c11 .before .before .before in
+    let c24 = c14 .before .before .before .before .before .before .before .before .before .before in
+    let c34 = c24 .before .before .before .before .before .before .before .before .before .before in
+    let g = passed-at _ _ _ _ _ _ _ _ _ _ (c24 .pass .result) (c24 .pass .ensures) (c14 .last .given .1) in let d = named-done (c34 .pre .1) g _ _ _ (c8 .dialects .result) (c8 .dialects .ensures) (c .before .before .m .given .1) in stopped-words (c34 .pre .1) g d (c11 .if1 .left) (no-words (d .stores) refl _ ∙ no-words-yet (c34 .pre .1) g refl _) (no-texts (d .stores) refl _ ∙ no-texts-yet (c34 .pre .1) g refl _) (c .if2 .taken)
 
 same-length-9 : tie.Need-same-length-9
 same-length-9 c = search needs
@@ -101,13 +122,35 @@ same-length-12 : tie.Need-same-length-12
 same-length-12 c = search needs
 
 returns-3 : tie.Need-returns-3
-returns-3 c = let g = passed-at _ _ _ _ _ _ _ _ _ _ (c .before .before .before .before .before .before .before .before .before .before .before .before .before .before .before .before .before .before .before .before .before .before .before .before .before .pass .result) (c .before .before .before .before .before .before .before .before .before .before .before .before .before .before .before .before .before .before .before .before .before .before .before .before .before .pass .ensures) (c .before .before .before .before .before .before .before .before .before .before .before .before .before .before .before .last .given .1) in let d = named-done (c .before .before .before .before .before .before .before .before .before .before .before .before .before .before .before .before .before .before .before .before .before .before .before .before .before .before .before .before .before .before .before .before .before .before .before .pre .1) g _ _ _ (c .before .before .before .before .before .before .before .before .before .dialects .result) (c .before .before .before .before .before .before .before .before .before .dialects .ensures) (c .before .before .before .m .given .1) in stopped-bytes (c .before .before .before .before .before .before .before .before .before .before .before .before .before .before .before .before .before .before .before .before .before .before .before .before .before .before .before .before .before .before .before .before .before .before .before .pre .1) g d (c .before .before .before .before .before .before .before .before .before .before .before .before .if1 .left) (no-words (d .stores) refl _ ∙ no-words-yet (c .before .before .before .before .before .before .before .before .before .before .before .before .before .before .before .before .before .before .before .before .before .before .before .before .before .before .before .before .before .before .before .before .before .before .before .pre .1) g refl _) (no-texts (d .stores) refl _ ∙ no-texts-yet (c .before .before .before .before .before .before .before .before .before .before .before .before .before .before .before .before .before .before .before .before .before .before .before .before .before .before .before .before .before .before .before .before .before .before .before .pre .1) g refl _) (c .before .if2 .left) (c .if3 .taken)
+returns-3 c =
+    let c3 = c .before .before .before in
+    let c9 = c3 .before .before .before .before .before .before in
+    let c12 = c9 .before .before .before in
+    let c15 = c12 .before .before .before in
+    let c25 = c15 .before .before .before .before .before .before .before .before .before .before in
+    let c35 = c25 .before .before .before .before .before .before .before .before .before .before in
+    let g = passed-at _ _ _ _ _ _ _ _ _ _ (c25 .pass .result) (c25 .pass .ensures) (c15 .last .given .1) in let d = named-done (c35 .pre .1) g _ _ _ (c9 .dialects .result) (c9 .dialects .ensures) (c3 .m .given .1) in stopped-bytes (c35 .pre .1) g d (c12 .if1 .left) (no-words (d .stores) refl _ ∙ no-words-yet (c35 .pre .1) g refl _) (no-texts (d .stores) refl _ ∙ no-texts-yet (c35 .pre .1) g refl _) (c .before .if2 .left) (c .if3 .taken)
 
 add-store : tie.Need-add-store
-add-store c = let g = passed-at _ _ _ _ _ _ _ _ _ _ (c .before .before .before .before .before .before .before .before .before .before .before .before .before .before .before .before .before .before .before .before .before .before .before .before .before .pass .result) (c .before .before .before .before .before .before .before .before .before .before .before .before .before .before .before .before .before .before .before .before .before .before .before .before .before .pass .ensures) (c .before .before .before .before .before .before .before .before .before .before .before .before .before .before .before .last .given .1) in let d = named-done (c .before .before .before .before .before .before .before .before .before .before .before .before .before .before .before .before .before .before .before .before .before .before .before .before .before .before .before .before .before .before .before .before .before .before .before .pre .1) g _ _ _ (c .before .before .before .before .before .before .before .before .before .dialects .result) (c .before .before .before .before .before .before .before .before .before .dialects .ensures) (c .before .before .before .m .given .1) in let k = measured-fits (c .before .before .before .before .before .before .before .before .before .before .before .before .before .before .before .before .before .before .before .before .before .before .before .before .before .before .before .before .before .before .before .before .before .before .before .pre .1) g d (c .before .before .before .before .before .before .before .before .before .before .before .before .before .before .before .before .before .before .before .before .before .before .before .before .before .before .before .before .before .before .before .before .before .before .before .pre .0) .1 in omega arith
+add-store c =
+    let c3 = c .before .before .before in
+    let c9 = c3 .before .before .before .before .before .before in
+    let c15 = c9 .before .before .before .before .before .before in
+    let c25 = c15 .before .before .before .before .before .before .before .before .before .before in
+    let c35 = c25 .before .before .before .before .before .before .before .before .before .before in
+    let g = passed-at _ _ _ _ _ _ _ _ _ _ (c25 .pass .result) (c25 .pass .ensures) (c15 .last .given .1) in let d = named-done (c35 .pre .1) g _ _ _ (c9 .dialects .result) (c9 .dialects .ensures) (c3 .m .given .1) in let k = measured-fits (c35 .pre .1) g d (c35 .pre .0) .1 in omega arith
 
 store-requires : tie.Need-store-requires
-store-requires c κs = let g = passed-at _ _ _ _ _ _ _ _ _ _ (c .before .before .before .before .before .before .before .before .before .before .before .before .before .before .before .before .before .before .before .before .before .before .before .before .before .before .before .before .before .pass .result) (c .before .before .before .before .before .before .before .before .before .before .before .before .before .before .before .before .before .before .before .before .before .before .before .before .before .before .before .before .before .pass .ensures) (c .before .before .before .before .before .before .before .before .before .before .before .before .before .before .before .before .before .before .before .last .given .1) in let d = named-done (c .before .before .before .before .before .before .before .before .before .before .before .before .before .before .before .before .before .before .before .before .before .before .before .before .before .before .before .before .before .before .before .before .before .before .before .before .before .before .before .pre .1) g _ _ _ (c .before .before .before .before .before .before .before .before .before .before .before .before .before .dialects .result) (c .before .before .before .before .before .before .before .before .before .before .before .before .before .dialects .ensures) (c .before .before .before .before .before .before .before .m .given .1) in (c .before .before .before .before .before .before .before .before .before .before .before .before .before .before .before .before .before .before .before .before .before .before .before .before .before .before .before .before .before .before .before .before .before .before .before .before .before .before .before .pre .0, c .before .before .before .before .before .before .before .before .before .before .before .before .before .before .before .before .before .before .before .before .before .before .before .before .before .before .before .before .before .before .before .before .before .before .before .before .before .before .before .pre .1 .lies, all-known (c .before .before .before .before .before .before .before .before .before .before .before .before .before .before .before .before .before .before .before .before .before .before .before .before .before .before .before .before .before .before .before .before .before .before .before .before .before .before .before .pre .1) g d (c .before .before .before .before .before .before .before .before .before .before .before .before .before .before .before .before .if1 .left) (c .before .before .before .before .before .before .before .before .before .before .before .before .before .before .before .before .before .before .before .before .before .before .before .before .before .before .before .before .before .before .before .before .before .before .before .before .before .before .before .pre .2) (c .before .before .before .before .before .before .before .before .before .before .before .before .before .before .before .before .before .before .before .before .before .before .before .before .before .before .before .before .before .before .before .before .before .before .before .before .before .before .before .pre .3) (c .before .before .before .before .before .if2 .left) (c .before .before .before .before .if3 .left))
+store-requires c κs =
+    let c4 = c .before .before .before .before in
+    let c5 = c4 .before in
+    let c7 = c5 .before .before in
+    let c13 = c7 .before .before .before .before .before .before in
+    let c16 = c13 .before .before .before in
+    let c19 = c16 .before .before .before in
+    let c29 = c19 .before .before .before .before .before .before .before .before .before .before in
+    let c39 = c29 .before .before .before .before .before .before .before .before .before .before in
+    let g = passed-at _ _ _ _ _ _ _ _ _ _ (c29 .pass .result) (c29 .pass .ensures) (c19 .last .given .1) in let d = named-done (c39 .pre .1) g _ _ _ (c13 .dialects .result) (c13 .dialects .ensures) (c7 .m .given .1) in (c39 .pre .0, c39 .pre .1 .lies, all-known (c39 .pre .1) g d (c16 .if1 .left) (c39 .pre .2) (c39 .pre .3) (c5 .if2 .left) (c4 .if3 .left))
 
 same-length-13 : tie.Need-same-length-13
 same-length-13 c = search needs
@@ -122,7 +165,12 @@ same-length-16 : tie.Need-same-length-16
 same-length-16 c = search needs
 
 returns-4 : tie.Need-returns-4
-returns-4 c = (stopped-members (c .before .before .before .before .before .before .before .before .before .before .before .before .before .before .before .before .before .before .before .before .before .pre .1) _ _ (passed-not _ _ _ _ _ _ _ _ _ _ (c .before .before .before .before .before .before .before .before .before .before .before .pass .result) (c .before .before .before .before .before .before .before .before .before .before .before .pass .ensures) (c .before .cause .given .1)), front-none (c .before .before .before .before .before .before .before .before .before .before .before .pass .last .1 .1 .1 .1 .0) _ (c .before .before .before .before .before .before .records .given .0), front-none (c .before .before .before .before .before .before .before .before .before .before .before .pass .last .1 .1 .1 .1 .1 .0) _ (c .before .before .before .before .texts .given .0))
+returns-4 c =
+    let c4 = c .before .before .before .before in
+    let c6 = c4 .before .before in
+    let c11 = c6 .before .before .before .before .before in
+    let c21 = c11 .before .before .before .before .before .before .before .before .before .before in
+    (stopped-members (c21 .pre .1) _ _ (passed-not _ _ _ _ _ _ _ _ _ _ (c11 .pass .result) (c11 .pass .ensures) (c .before .cause .given .1)), front-none (c11 .pass .last .1 .1 .1 .1 .0) _ (c6 .records .given .0), front-none (c11 .pass .last .1 .1 .1 .1 .1 .0) _ (c4 .texts .given .0))
 
 same-length-17 : tie.Need-same-length-17
 same-length-17 c = search needs
@@ -137,22 +185,55 @@ same-length-20 : tie.Need-same-length-20
 same-length-20 c = search needs
 
 returns-5 : tie.Need-returns-5
-returns-5 c = let g = passed-at _ _ _ _ _ _ _ _ _ _ (c .before .before .before .before .before .before .before .before .before .before .before .before .before .before .before .before .before .before .before .before .before .before .before .pass .result) (c .before .before .before .before .before .before .before .before .before .before .before .before .before .before .before .before .before .before .before .before .before .before .before .pass .ensures) (c .before .before .before .before .before .before .before .before .before .before .before .before .before .last .given .1) in absurd (named-always (c .before .before .before .before .before .before .before .before .before .before .before .before .before .before .before .before .before .before .before .before .before .before .before .before .before .before .before .before .before .before .before .before .before .pre .1) g _ _ _ (c .before .before .before .before .before .before .before .dialects .result) (c .before .before .before .before .before .before .before .dialects .ensures) (c .before .cause2 .given .1))
+returns-5 c =
+    let c7 = c .before .before .before .before .before .before .before in
+    let c13 = c7 .before .before .before .before .before .before in
+    let c23 = c13 .before .before .before .before .before .before .before .before .before .before in
+    let c33 = c23 .before .before .before .before .before .before .before .before .before .before in
+    let g = passed-at _ _ _ _ _ _ _ _ _ _ (c23 .pass .result) (c23 .pass .ensures) (c13 .last .given .1) in absurd (named-always (c33 .pre .1) g _ _ _ (c7 .dialects .result) (c7 .dialects .ensures) (c .before .cause2 .given .1))
 
 same-length-21 : tie.Need-same-length-21
-same-length-21 c = let g = passed-at _ _ _ _ _ _ _ _ _ _ (c .before .before .before .before .before .before .before .before .before .before .before .before .before .before .before .before .before .before .before .before .before .before .before .before .before .before .before .before .before .before .before .before .before .before .before .before .before .before .pass .result) (c .before .before .before .before .before .before .before .before .before .before .before .before .before .before .before .before .before .before .before .before .before .before .before .before .before .before .before .before .before .before .before .before .before .before .before .before .before .before .pass .ensures) (c .before .before .before .before .before .before .before .before .before .before .before .before .before .before .before .before .before .before .before .before .before .before .before .before .before .before .before .before .last .given .1) in omega (arith, c .before .before .before .before .before .before .before .words2 .given, g .fills .same-places)
+same-length-21 c =
+    let c7 = c .before .before .before .before .before .before .before in
+    let c28 = c7 .before .before .before .before .before .before .before .before .before .before .before .before .before .before .before .before .before .before .before .before .before in
+    let c38 = c28 .before .before .before .before .before .before .before .before .before .before in
+    let g = passed-at _ _ _ _ _ _ _ _ _ _ (c38 .pass .result) (c38 .pass .ensures) (c28 .last .given .1) in omega (arith, c7 .words2 .given, g .fills .same-places)
 
 same-length-22 : tie.Need-same-length-22
-same-length-22 c = let g = passed-at _ _ _ _ _ _ _ _ _ _ (c .before .before .before .before .before .before .before .before .before .before .before .before .before .before .before .before .before .before .before .before .before .before .before .before .before .before .before .before .before .before .before .before .before .before .before .before .before .before .pass .result) (c .before .before .before .before .before .before .before .before .before .before .before .before .before .before .before .before .before .before .before .before .before .before .before .before .before .before .before .before .before .before .before .before .before .before .before .before .before .before .pass .ensures) (c .before .before .before .before .before .before .before .before .before .before .before .before .before .before .before .before .before .before .before .before .before .before .before .before .before .before .before .before .last .given .1) in omega (arith, c .before .before .before .before .before .bytes2 .given, g .fills .same-bytes)
+same-length-22 c =
+    let c5 = c .before .before .before .before .before in
+    let c28 = c5 .before .before .before .before .before .before .before .before .before .before .before .before .before .before .before .before .before .before .before .before .before .before .before in
+    let c38 = c28 .before .before .before .before .before .before .before .before .before .before in
+    let g = passed-at _ _ _ _ _ _ _ _ _ _ (c38 .pass .result) (c38 .pass .ensures) (c28 .last .given .1) in omega (arith, c5 .bytes2 .given, g .fills .same-bytes)
 
 same-length-23 : tie.Need-same-length-23
-same-length-23 c = let g = passed-at _ _ _ _ _ _ _ _ _ _ (c .before .before .before .before .before .before .before .before .before .before .before .before .before .before .before .before .before .before .before .before .before .before .before .before .before .before .before .before .before .before .before .before .before .before .before .before .before .before .pass .result) (c .before .before .before .before .before .before .before .before .before .before .before .before .before .before .before .before .before .before .before .before .before .before .before .before .before .before .before .before .before .before .before .before .before .before .before .before .before .before .pass .ensures) (c .before .before .before .before .before .before .before .before .before .before .before .before .before .before .before .before .before .before .before .before .before .before .before .before .before .before .before .before .last .given .1) in let d = named-done (c .before .before .before .before .before .before .before .before .before .before .before .before .before .before .before .before .before .before .before .before .before .before .before .before .before .before .before .before .before .before .before .before .before .before .before .before .before .before .before .before .before .before .before .before .before .before .before .before .pre .1) g _ _ _ (c .before .before .before .before .before .before .before .before .before .before .before .before .before .before .before .before .before .before .before .before .before .before .dialects .result) (c .before .before .before .before .before .before .before .before .before .before .before .before .before .before .before .before .before .before .before .before .before .before .dialects .ensures) (c .before .before .before .before .before .before .before .before .before .before .before .before .before .before .before .before .m .given .1) in c .before .before .before .records3 .given ∙ ap length (no-words (d .stores) refl _ ∙ no-words-yet (c .before .before .before .before .before .before .before .before .before .before .before .before .before .before .before .before .before .before .before .before .before .before .before .before .before .before .before .before .before .before .before .before .before .before .before .before .before .before .before .before .before .before .before .before .before .before .before .before .pre .1) g refl _)
+same-length-23 c =
+    let c3 = c .before .before .before in
+    let c16 = c3 .before .before .before .before .before .before .before .before .before .before .before .before .before in
+    let c22 = c16 .before .before .before .before .before .before in
+    let c28 = c22 .before .before .before .before .before .before in
+    let c38 = c28 .before .before .before .before .before .before .before .before .before .before in
+    let c48 = c38 .before .before .before .before .before .before .before .before .before .before in
+    let g = passed-at _ _ _ _ _ _ _ _ _ _ (c38 .pass .result) (c38 .pass .ensures) (c28 .last .given .1) in let d = named-done (c48 .pre .1) g _ _ _ (c22 .dialects .result) (c22 .dialects .ensures) (c16 .m .given .1) in c3 .records3 .given ∙ ap length (no-words (d .stores) refl _ ∙ no-words-yet (c48 .pre .1) g refl _)
 
 same-length-24 : tie.Need-same-length-24
-same-length-24 c = let g = passed-at _ _ _ _ _ _ _ _ _ _ (c .before .before .before .before .before .before .before .before .before .before .before .before .before .before .before .before .before .before .before .before .before .before .before .before .before .before .before .before .before .before .before .before .before .before .before .before .before .before .pass .result) (c .before .before .before .before .before .before .before .before .before .before .before .before .before .before .before .before .before .before .before .before .before .before .before .before .before .before .before .before .before .before .before .before .before .before .before .before .before .before .pass .ensures) (c .before .before .before .before .before .before .before .before .before .before .before .before .before .before .before .before .before .before .before .before .before .before .before .before .before .before .before .before .last .given .1) in let d = named-done (c .before .before .before .before .before .before .before .before .before .before .before .before .before .before .before .before .before .before .before .before .before .before .before .before .before .before .before .before .before .before .before .before .before .before .before .before .before .before .before .before .before .before .before .before .before .before .before .before .pre .1) g _ _ _ (c .before .before .before .before .before .before .before .before .before .before .before .before .before .before .before .before .before .before .before .before .before .before .dialects .result) (c .before .before .before .before .before .before .before .before .before .before .before .before .before .before .before .before .before .before .before .before .before .before .dialects .ensures) (c .before .before .before .before .before .before .before .before .before .before .before .before .before .before .before .before .m .given .1) in c .before .texts3 .given ∙ ap length (no-texts (d .stores) refl _ ∙ no-texts-yet (c .before .before .before .before .before .before .before .before .before .before .before .before .before .before .before .before .before .before .before .before .before .before .before .before .before .before .before .before .before .before .before .before .before .before .before .before .before .before .before .before .before .before .before .before .before .before .before .before .pre .1) g refl _)
+same-length-24 c =
+    let c16 = c .before .before .before .before .before .before .before .before .before .before .before .before .before .before .before .before in
+    let c22 = c16 .before .before .before .before .before .before in
+    let c28 = c22 .before .before .before .before .before .before in
+    let c38 = c28 .before .before .before .before .before .before .before .before .before .before in
+    let c48 = c38 .before .before .before .before .before .before .before .before .before .before in
+    let g = passed-at _ _ _ _ _ _ _ _ _ _ (c38 .pass .result) (c38 .pass .ensures) (c28 .last .given .1) in let d = named-done (c48 .pre .1) g _ _ _ (c22 .dialects .result) (c22 .dialects .ensures) (c16 .m .given .1) in c .before .texts3 .given ∙ ap length (no-texts (d .stores) refl _ ∙ no-texts-yet (c48 .pre .1) g refl _)
 
 returns-6 : tie.Need-returns-6
-returns-6 c = let g = passed-at _ _ _ _ _ _ _ _ _ _ (c .before .before .before .before .before .before .before .before .before .before .before .before .before .before .before .before .before .before .before .before .before .before .before .before .before .before .before .before .before .before .before .before .before .before .before .before .before .before .pass .result) (c .before .before .before .before .before .before .before .before .before .before .before .before .before .before .before .before .before .before .before .before .before .before .before .before .before .before .before .before .before .before .before .before .before .before .before .before .before .before .pass .ensures) (c .before .before .before .before .before .before .before .before .before .before .before .before .before .before .before .before .before .before .before .before .before .before .before .before .before .before .before .before .last .given .1) in let d = named-done (c .before .before .before .before .before .before .before .before .before .before .before .before .before .before .before .before .before .before .before .before .before .before .before .before .before .before .before .before .before .before .before .before .before .before .before .before .before .before .before .before .before .before .before .before .before .before .before .before .pre .1) g _ _ _ (c .before .before .before .before .before .before .before .before .before .before .before .before .before .before .before .before .before .before .before .before .before .before .dialects .result) (c .before .before .before .before .before .before .before .before .before .before .before .before .before .before .before .before .before .before .before .before .before .before .dialects .ensures) (c .before .before .before .before .before .before .before .before .before .before .before .before .before .before .before .before .m .given .1) in reads-same _ _ _ _ _ _ _ (c .before .before .before .before .before .before .before .before .store .result) (no-words (d .stores) refl _ ∙ no-words-yet (c .before .before .before .before .before .before .before .before .before .before .before .before .before .before .before .before .before .before .before .before .before .before .before .before .before .before .before .before .before .before .before .before .before .before .before .before .before .before .before .before .before .before .before .before .before .before .before .before .pre .1) g refl _) (no-texts (d .stores) refl _ ∙ no-texts-yet (c .before .before .before .before .before .before .before .before .before .before .before .before .before .before .before .before .before .before .before .before .before .before .before .before .before .before .before .before .before .before .before .before .before .before .before .before .before .before .before .before .before .before .before .before .before .before .before .before .pre .1) g refl _) (c .before .before .before .before .before .before .before .before .store .ensures)
+returns-6 c =
+    let c8 = c .before .before .before .before .before .before .before .before in
+    let c16 = c8 .before .before .before .before .before .before .before .before in
+    let c22 = c16 .before .before .before .before .before .before in
+    let c28 = c22 .before .before .before .before .before .before in
+    let c38 = c28 .before .before .before .before .before .before .before .before .before .before in
+    let c48 = c38 .before .before .before .before .before .before .before .before .before .before in
+    let g = passed-at _ _ _ _ _ _ _ _ _ _ (c38 .pass .result) (c38 .pass .ensures) (c28 .last .given .1) in let d = named-done (c48 .pre .1) g _ _ _ (c22 .dialects .result) (c22 .dialects .ensures) (c16 .m .given .1) in reads-same _ _ _ _ _ _ _ (c8 .store .result) (no-words (d .stores) refl _ ∙ no-words-yet (c48 .pre .1) g refl _) (no-texts (d .stores) refl _ ∙ no-texts-yet (c48 .pre .1) g refl _) (c8 .store .ensures)
 
 pub parse-over-spec : {M : Type 1} → statement M
 parse-over-spec =

@@ -41,25 +41,40 @@ enum-told-2 : tie.Need-enum-told-2 Inv-loop μ-loop
 enum-told-2 c = search needs
 
 declaration-placed-requires : tie.Need-declaration-placed-requires Inv-loop μ-loop
-declaration-placed-requires c κs = passing-begins (c .before .before .before .before .before .before .loop .inv) (c .before .before .before .before .before .before .before .before .before .before .before .before .pre)
+declaration-placed-requires c κs =
+    let c6 = c .before .before .before .before .before .before in
+    let c12 = c6 .before .before .before .before .before .before in
+    passing-begins (c6 .loop .inv) (c12 .pre)
 
 enum-known-cause : tie.Need-enum-known-cause Inv-loop μ-loop
 enum-known-cause c = search needs
 
 same-length-5 : tie.Need-same-length-5 Inv-loop μ-loop
-same-length-5 c = omega (arith, c .before .before .before .before .before .before .before .before .before .before .before .before .before .before .before .before .before .before .loop .inv .fills .same-places)
+same-length-5 c =
+    let c18 = c .before .before .before .before .before .before .before .before .before .before .before .before .before .before .before .before .before .before in
+    omega (arith, c18 .loop .inv .fills .same-places)
 
 same-length-6 : tie.Need-same-length-6 Inv-loop μ-loop
-same-length-6 c = omega (arith, c .before .before .before .before .before .before .before .before .before .before .before .before .before .before .before .before .before .before .loop .inv .fills .same-bytes)
+same-length-6 c =
+    let c18 = c .before .before .before .before .before .before .before .before .before .before .before .before .before .before .before .before .before .before in
+    omega (arith, c18 .loop .inv .fills .same-bytes)
 
 same-length-7 : tie.Need-same-length-7 Inv-loop μ-loop
-same-length-7 c = omega (arith, c .before .before .before .before .before .before .before .before .before .before .before .before .before .before .before .before .before .before .loop .inv .fills .records .same)
+same-length-7 c =
+    let c18 = c .before .before .before .before .before .before .before .before .before .before .before .before .before .before .before .before .before .before in
+    omega (arith, c18 .loop .inv .fills .records .same)
 
 same-length-8 : tie.Need-same-length-8 Inv-loop μ-loop
-same-length-8 c = omega (arith, c .before .before .before .before .before .before .before .before .before .before .before .before .before .before .before .before .before .before .loop .inv .fills .texts .same)
+same-length-8 c =
+    let c18 = c .before .before .before .before .before .before .before .before .before .before .before .before .before .before .before .before .before .before in
+    omega (arith, c18 .loop .inv .fills .texts .same)
 
 returns-2 : tie.Need-returns-2 Inv-loop μ-loop
-returns-2 c = passing-refused (c .before .before .before .before .before .before .before .before .before .before .before .before .before .before .before .before .before .before .loop .inv) (is-token (c .before .before .before .before .before .before .before .before .before .before .before .before .before .before .before .before .enum-told2 .given .1)) (placed-not _ _ _ _ _ _ _ _ _ _ _ (c .before .before .before .before .before .before .before .before .before .before .before .declaration-placed .result) (c .before .before .before .before .before .before .before .before .before .before .before .declaration-placed .ensures) (c .before .cause .given .1))
+returns-2 c =
+    let c11 = c .before .before .before .before .before .before .before .before .before .before .before in
+    let c16 = c11 .before .before .before .before .before in
+    let c18 = c16 .before .before in
+    passing-refused (c18 .loop .inv) (is-token (c16 .enum-told2 .given .1)) (placed-not _ _ _ _ _ _ _ _ _ _ _ (c11 .declaration-placed .result) (c11 .declaration-placed .ensures) (c .before .cause .given .1))
 
 enum-known-u : tie.Need-enum-known-u Inv-loop μ-loop
 enum-known-u c = search needs
@@ -71,19 +86,46 @@ records-of-requires : tie.Need-records-of-requires Inv-loop μ-loop
 records-of-requires c κs = tt
 
 add-count : tie.Need-add-count Inv-loop μ-loop
-add-count c = let k = passing-small (passing-more (c .before .before .before .before .before .before .before .before .before .before .before .before .before .before .before .before .before .before .before .before .loop .inv) (is-token (c .before .before .before .before .before .before .before .before .before .before .before .before .before .before .before .before .before .before .enum-told2 .given .1)) (c .before .before .before .before .before .before .before .before .before .before .before .before .before .before .before .before .before .before .before .before .before .before .before .before .before .before .pre) (placed-at _ _ _ _ _ _ _ _ _ _ _ (c .before .before .before .before .before .before .before .before .before .before .before .before .before .declaration-placed .result) (c .before .before .before .before .before .before .before .before .before .before .before .before .before .declaration-placed .ensures) (c .before .before .before .u .given .1)) (c .records-of .ensures) refl) (c .before .before .before .before .before .before .before .before .before .before .before .before .before .before .before .before .before .before .before .before .before .before .before .before .before .before .pre .small) .0 in omega arith
+add-count c =
+    let c3 = c .before .before .before in
+    let c13 = c3 .before .before .before .before .before .before .before .before .before .before in
+    let c18 = c13 .before .before .before .before .before in
+    let c20 = c18 .before .before in
+    let c26 = c20 .before .before .before .before .before .before in
+    let k = passing-small (passing-more (c20 .loop .inv) (is-token (c18 .enum-told2 .given .1)) (c26 .pre) (placed-at _ _ _ _ _ _ _ _ _ _ _ (c13 .declaration-placed .result) (c13 .declaration-placed .ensures) (c3 .u .given .1)) (c .records-of .ensures) refl) (c26 .pre .small) .0 in omega arith
 
 add-m : tie.Need-add-m Inv-loop μ-loop
-add-m c = let k = passing-small (passing-more (c .before .before .before .before .before .before .before .before .before .before .before .before .before .before .before .before .before .before .before .before .loop .inv) (is-token (c .before .before .before .before .before .before .before .before .before .before .before .before .before .before .before .before .before .before .enum-told2 .given .1)) (c .before .before .before .before .before .before .before .before .before .before .before .before .before .before .before .before .before .before .before .before .before .before .before .before .before .before .pre) (placed-at _ _ _ _ _ _ _ _ _ _ _ (c .before .before .before .before .before .before .before .before .before .before .before .before .before .declaration-placed .result) (c .before .before .before .before .before .before .before .before .before .before .before .before .before .declaration-placed .ensures) (c .before .before .before .u .given .1)) (c .records-of .ensures) refl) (c .before .before .before .before .before .before .before .before .before .before .before .before .before .before .before .before .before .before .before .before .before .before .before .before .before .before .pre .small) .1 in omega arith
+add-m c =
+    let c3 = c .before .before .before in
+    let c13 = c3 .before .before .before .before .before .before .before .before .before .before in
+    let c18 = c13 .before .before .before .before .before in
+    let c20 = c18 .before .before in
+    let c26 = c20 .before .before .before .before .before .before in
+    let k = passing-small (passing-more (c20 .loop .inv) (is-token (c18 .enum-told2 .given .1)) (c26 .pre) (placed-at _ _ _ _ _ _ _ _ _ _ _ (c13 .declaration-placed .result) (c13 .declaration-placed .ensures) (c3 .u .given .1)) (c .records-of .ensures) refl) (c26 .pre .small) .1 in omega arith
 
 add-y : tie.Need-add-y Inv-loop μ-loop
-add-y c = let k = passing-small (passing-more (c .before .before .before .before .before .before .before .before .before .before .before .before .before .before .before .before .before .before .before .before .loop .inv) (is-token (c .before .before .before .before .before .before .before .before .before .before .before .before .before .before .before .before .before .before .enum-told2 .given .1)) (c .before .before .before .before .before .before .before .before .before .before .before .before .before .before .before .before .before .before .before .before .before .before .before .before .before .before .pre) (placed-at _ _ _ _ _ _ _ _ _ _ _ (c .before .before .before .before .before .before .before .before .before .before .before .before .before .declaration-placed .result) (c .before .before .before .before .before .before .before .before .before .before .before .before .before .declaration-placed .ensures) (c .before .before .before .u .given .1)) (c .records-of .ensures) refl) (c .before .before .before .before .before .before .before .before .before .before .before .before .before .before .before .before .before .before .before .before .before .before .before .before .before .before .pre .small) .2 in omega arith
+add-y c =
+    let c3 = c .before .before .before in
+    let c13 = c3 .before .before .before .before .before .before .before .before .before .before in
+    let c18 = c13 .before .before .before .before .before in
+    let c20 = c18 .before .before in
+    let c26 = c20 .before .before .before .before .before .before in
+    let k = passing-small (passing-more (c20 .loop .inv) (is-token (c18 .enum-told2 .given .1)) (c26 .pre) (placed-at _ _ _ _ _ _ _ _ _ _ _ (c13 .declaration-placed .result) (c13 .declaration-placed .ensures) (c3 .u .given .1)) (c .records-of .ensures) refl) (c26 .pre .small) .2 in omega arith
 
 loop-less : tie.Need-loop-less Inv-loop μ-loop
-loop-less c = let k = placed-at _ _ _ _ _ _ _ _ _ _ _ (c .before .before .before .before .before .before .before .before .before .before .before .before .before .declaration-placed .result) (c .before .before .before .before .before .before .before .before .before .before .before .before .before .declaration-placed .ensures) (c .before .before .before .u .given .1) .declares .onward .fewer in omega arith
+loop-less c =
+    let c3 = c .before .before .before in
+    let c13 = c3 .before .before .before .before .before .before .before .before .before .before in
+    let k = placed-at _ _ _ _ _ _ _ _ _ _ _ (c13 .declaration-placed .result) (c13 .declaration-placed .ensures) (c3 .u .given .1) .declares .onward .fewer in omega arith
 
 loop-again : tie.Need-loop-again Inv-loop μ-loop
-loop-again c = passing-more (c .before .before .before .before .before .before .before .before .before .before .before .before .before .before .before .before .before .before .before .before .loop .inv) (is-token (c .before .before .before .before .before .before .before .before .before .before .before .before .before .before .before .before .before .before .enum-told2 .given .1)) (c .before .before .before .before .before .before .before .before .before .before .before .before .before .before .before .before .before .before .before .before .before .before .before .before .before .before .pre) (placed-at _ _ _ _ _ _ _ _ _ _ _ (c .before .before .before .before .before .before .before .before .before .before .before .before .before .declaration-placed .result) (c .before .before .before .before .before .before .before .before .before .before .before .before .before .declaration-placed .ensures) (c .before .before .before .u .given .1)) (c .records-of .ensures) (c .before .note .ensures)
+loop-again c =
+    let c3 = c .before .before .before in
+    let c13 = c3 .before .before .before .before .before .before .before .before .before .before in
+    let c18 = c13 .before .before .before .before .before in
+    let c20 = c18 .before .before in
+    let c26 = c20 .before .before .before .before .before .before in
+    passing-more (c20 .loop .inv) (is-token (c18 .enum-told2 .given .1)) (c26 .pre) (placed-at _ _ _ _ _ _ _ _ _ _ _ (c13 .declaration-placed .result) (c13 .declaration-placed .ensures) (c3 .u .given .1)) (c .records-of .ensures) (c .before .note .ensures)
 
 pub pass-spec : {M : Type 1} → statement M
 pass-spec =
