@@ -1,48 +1,42 @@
 -- `tokens::take` meets its contract. Assumes nothing.
 use borrow.Author.Needs.{needs}
 use Rattle.tokens.proofs.Stream.{take-nothing, take-got, take-refused}
+use Rattle.tokens.proofs.Told.{arrived-told}
 use Rattle.tokens.proofs.take.Statement.{statement}
 use Rattle.tokens.proofs.take.Tie as tie
-use Rattle.tokens.proofs.take.Reads as reads
-use Rattle.tokens.proofs.take.Lts as lts
-use Rattle.tokens.proofs.next.Reads as next-reads
-use Rattle.tokens.proofs.start.Reads as start-reads
 
--- src/lib.rt:236:20
 enum-known-part : tie.Need-enum-known-part
 enum-known-part c = search needs
 
--- src/lib.rt:237:31
 enum-told : tie.Need-enum-told
 enum-told c = search needs
 
--- src/lib.rt:237:55
 start-requires : tie.Need-start-requires
 start-requires c κs = search needs
 
--- src/lib.rt:237:9
 returns : tie.Need-returns
 returns c = take-nothing _ _ (c .before .enum-told .given .1) (c .start .ensures)
 
--- src/lib.rt:239:11
 next-requires : tie.Need-next-requires
 next-requires c κs = search needs
 
--- src/lib.rt:240:21
-enum-known-t : tie.Need-enum-known-t
-enum-known-t c = search needs
+enum-known-arrived : tie.Need-enum-known-arrived
+enum-known-arrived c = search needs
 
--- src/lib.rt:241:26
-enum-known-cause : tie.Need-enum-known-cause
-enum-known-cause c = search needs
+enum-told-2 : tie.Need-enum-told-2
+enum-told-2 c = search needs
 
--- src/lib.rt:233:1
+cause-requires : tie.Need-cause-requires
+cause-requires c κs = search needs
+
+place-requires : tie.Need-place-requires
+place-requires c κs = search needs
+
 returns-2 : tie.Need-returns-2
-returns-2 c = take-got _ _ (c .before .before .before .before .before .part .given .1) _ (c .before .before .before .next .ensures) (c .before .t .given .1)
+returns-2 c = take-refused _ _ (c .before .before .before .before .before .before .part .given .1) _ (c .before .before .before .before .next .ensures) (arrived-told (c .before .before .enum-told2 .given .1) (c .before .cause .ensures) (c .place .ensures))
 
--- src/lib.rt:233:1
 returns-3 : tie.Need-returns-3
-returns-3 c = take-refused _ _ (c .before .before .before .before .before .part .given .1) _ (c .before .before .before .next .ensures) (c .before .cause .given .1)
+returns-3 c = take-got _ _ (c .before .before .before .before .before .part .given .1) _ (c .before .before .before .next .ensures) (c .before .arrived .given .1)
 
 pub take-spec : {M : Type 1} → statement M
 take-spec =
@@ -53,7 +47,9 @@ take-spec =
     start-requires
     returns
     next-requires
-    enum-known-t
-    enum-known-cause
+    enum-known-arrived
+    enum-told-2
+    cause-requires
+    place-requires
     returns-2
     returns-3)
