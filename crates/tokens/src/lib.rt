@@ -150,10 +150,11 @@ fn eat_if(source: &[u8], token: Current, test: bool) -> Eaten
     if !test {
         return Eaten::No;
     }
-    match next(source, token) {
-        Arrived::At(t) => Eaten::Yes(t),
-        Arrived::Refused(cause, at) => Eaten::Refused(cause, at),
-    }
+    let arrived = next(source, token);
+    let Arrived::At(t) = arrived else {
+        return Eaten::Refused(arrived.cause(), arrived.place());
+    };
+    Eaten::Yes(t)
 }
 
 // The current token is taken if it is this mark.
@@ -277,10 +278,11 @@ fn take(source: &[u8], token: Current, part: Part) -> Taken
     let Part::From(a, e) = part else {
         return Taken::Refused(Cause::UnexpectedToken, start(token));
     };
-    match next(source, token) {
-        Arrived::At(t) => Taken::Got(a, e, t),
-        Arrived::Refused(cause, at) => Taken::Refused(cause, at),
-    }
+    let arrived = next(source, token);
+    let Arrived::At(t) = arrived else {
+        return Taken::Refused(arrived.cause(), arrived.place());
+    };
+    Taken::Got(a, e, t)
 }
 
 // A name; its start is the token's.
