@@ -14,7 +14,7 @@ use Rattle.tree.specs.Promise.{precOf}
 use Rattle.tree.specs.Records.{Branch}
 use Rattle.tree.specs.Stored.{declarationBranch}
 use Rattle.tree.specs.Syntax.{PrecKind, LiteralDeclaration, TokenReference, PrecDeclaration, Declaration}
-use Rattle.notation.specs.Parser.{Answer, read, refused, Parser, _>>=_, _>>_, pure, expect, commaOrNot}
+use Rattle.notation.specs.Parser.{read, refused, Parser, _>>=_, _>>_, pure, expect, commaOrNot}
 use Rattle.notation.specs.Declarations.{parseLiteral, parseTokenReference, parsePrecKind}
 use Rattle.tokens.specs.Promise.{stream}
 use Rattle.parser.specs.Steps.{Onward}

@@ -1,11 +1,11 @@
 -- What the functions on expressions come to, path by path.
 -- Assumes nothing.
-use Prim.Native.Nat.{ℕ, _+_, _-_, _<_}
+use Prim.Native.Nat.{ℕ, _<_}
 use mathlib.Core.Path.{_≡_, refl, _∙_}
 use mathlib.Core.Bool.{Bool, true, false}
 use mathlib.Core.List.{List}
 use Rattle.lexer.specs.Tokens.{Tokens}
-use Rattle.tree.specs.Syntax.{Expression, Prop, SpecializeKind, expressions}
+use Rattle.tree.specs.Syntax.{Expression, Prop, SpecializeKind}
 use Rattle.notation.specs.Parser.{Answer, read, refused, Parser, andThen, _>>=_, pure, choose, next, eat, expect}
 use Rattle.notation.specs.Expressions.{contentBy, referenceOf, parseBracedExpression, parseSpecializeExpression, parseParenthesizedExpression, parseProps}
 use Rattle.parser.specs.Shapes.{specializeHead, secondPart, SpecializeParts, specializeParts}

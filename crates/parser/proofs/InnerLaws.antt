@@ -3,12 +3,13 @@
 use Prim.Native.Nat.{ℕ, zero, suc, _+_, _-_, _*_, _≤_, _<_}
 use native.Mathlib.Omega.{arith}
 use mathlib.Core.Path.{_≡_, refl, ap, sym, _∙_}
-use mathlib.Core.Bool.{Bool, true, false, _&&_}
+use mathlib.Core.Bool.{true}
 use mathlib.Core.List.{List, [], _∷_, _++_, append-nil}
 use mathlib.Core.Option.{Option}
 use lib.ListN.{length, length-append}
 use lib.Dec.{ltb}
 use borrow.Author.Tests.{eqb-true}
+use Rattle.basics.proofs.Tests.{both-true}
 use Rattle.basics.specs.Basics.{letters, is, spells, every}
 use Rattle.error.specs.Causes.{unexpectedToken, inlineParameters}
 use Rattle.error.specs.declared.Cause.{Cause}
@@ -46,7 +47,7 @@ use Rattle.parser.proofs.Onward.{placed-in, placed-from, start-small, e
 use Rattle.parser.proofs.Stored.{stores-then}
 use Rattle.parser.proofs.Lists.{flat-none, lays-between, Listing, listing-more, listing-refused, opens-item}
 use Rattle.parser.proofs.Openings.{item-onward}
-use Rattle.parser.proofs.Ready.{ready-past, name-in, holds-end, lays-parent, nodes-each, count-each, flat-length}
+use Rattle.parser.proofs.Ready.{one-text, ready-past, name-in, holds-end, lays-parent, nodes-each, count-each, flat-length}
 use Rattle.parser.proofs.InnerRules.{inner-paren, inner-anon, inner-mark, reference-done, inline-params, inline-done}
 use Rattle.parser.proofs.Shown.{nodes-name, shown-name, shown-inline, shown-within}
 
@@ -127,12 +128,8 @@ module _ (below : Parser ℕ (Expression ℕ)) (s : List ℕ) (t : Current) (c :
 
 -- ------------------------------------------------------------------ `std` and a dot
 
-and-second : (a b : Bool) → (a && b) ≡ true → b ≡ true
-and-second true b h = h
-and-second false b h = cc
-
 pub std-dot : (text : List ℕ) (u : Current) → isStd text u ≡ true → markOf u ≡ 0x2E
-std-dot text u h = eqb-true (markOf u) 0x2E (and-second (spells "std" text) (is "." (markOf u)) h)
+std-dot text u h = eqb-true (markOf u) 0x2E (both-true (spells "std" text) (is "." (markOf u)) h .1)
 
 -- ------------------------------------------------------------------ in braces
 
@@ -279,10 +276,6 @@ module _ {s : List ℕ} {u v : Current} {b c : Lent} {k m : ℕ} (h : Heads s u 
       let l = heads-small (r .small) in
       let q = r .small in
       record { part = inline-part u name r f; small = r .small; starts = ready-start r e; few = omega arith; room = omega arith; space = omega arith }
-
-one-text : (y : Node) → length (textsOf (y ∷ [])) ≡ length (y .row .text)
-unfolding textsOf
-one-text y = ap length (append-nil (y .row .text))
 
 nodes-inline : (p : ℕ) (t : List ℕ) (ps : List (Prop ℕ)) (e : Expression ℕ) → nodes (expressionBranch (Expression.inline p t ps e))
     ≡ (flat (nodesOf propBranch) ps ++ nodes (expressionBranch e)) ++ node 32 p (encodeAll t) 0 0 (length ps + 1) ∷ []

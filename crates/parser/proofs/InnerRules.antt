@@ -1,6 +1,6 @@
 -- What an expression without its repeats comes to, by its first token.
 -- Assumes nothing.
-use Prim.Native.Nat.{ℕ, _+_, _-_, _<_}
+use Prim.Native.Nat.{ℕ, _<_}
 use native.Mathlib.Omega.{arith}
 use mathlib.Core.Path.{_≡_, refl, sym, _∙_}
 use mathlib.Core.Bool.{Bool, true, false}
@@ -12,7 +12,6 @@ use lib.ListN.{length}
 use Rattle.basics.specs.Basics.{letters, same, spells, every}
 use Rattle.error.specs.Causes.{unexpectedToken, inlineParameters}
 use Rattle.characters.specs.Places.{cut}
-use Rattle.lexer.specs.declared.Kind.{Kind}
 use Rattle.lexer.specs.declared.Kind.the-variants as K
 use Rattle.lexer.specs.Tokens as T
 use Rattle.lexer.specs.Tokens.{Tokens}

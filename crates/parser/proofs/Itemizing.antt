@@ -1,6 +1,6 @@
 -- The loops over the items of a sequence and over the arms of a choice.
 -- Assumes nothing.
-use Prim.Native.Nat.{ℕ, suc, _+_, _-_, _*_, _≤_}
+use Prim.Native.Nat.{ℕ, suc, _+_, _*_, _≤_}
 use native.Mathlib.Omega.{arith}
 use mathlib.Core.Path.{_≡_, refl, ap, subst, _∙_}
 use mathlib.Core.Bool.{true}
@@ -16,7 +16,7 @@ use Rattle.notation.specs.Parser.{Answer, read, refused, Parser, eat, loop}
 use Rattle.notation.specs.Expressions.{Item, marker, expression, parseExpressionSequence, parseItem, parseArm, firstEmptyArm}
 use Rattle.tokens.specs.Promise.{stream, LiesIn}
 use Rattle.parser.specs.Storing.{Lent, lent, Stores, node, flat, nodesOf}
-use Rattle.parser.specs.Steps.{placed, Onward, Lays, Ready, Lists}
+use Rattle.parser.specs.Steps.{placed, Onward, Lays, Ready}
 use Rattle.parser.specs.Shapes.{itemNodes, markersIn, expressionsIn, ShownOnly, Shown, Yields, YieldsMarker, YieldsItem, YieldsEnd, YieldsItems, YieldsArms, ReadyArms, emptyOf, emptyBy, emptyFirst}
 use Rattle.tokens.specs.declared.Current.{Current}
 use Rattle.parser.specs.declared.parts.Shape.{Shape}

@@ -21,7 +21,7 @@ use Rattle.parser.specs.declared.parts.Shape.{Shape}
 use Rattle.parser.specs.declared.parts.Marked.{Marked}
 use Rattle.parser.specs.declared.parts.Marked.the-variants as W
 use Rattle.parser.proofs.Onward.{placed-in}
-use Rattle.parser.proofs.Ready.{nodes-some}
+use Rattle.tree.proofs.Back.{nodes-some}
 
 module _ {o : Option ConflictMarkerKind} (r : Marked) (h : markedOf r ≡ o) where
   pub marked-some : {k : Declared} → r ≡ W.Kind k → o ≡ some (markerOf k)

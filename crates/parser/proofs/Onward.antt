@@ -10,7 +10,6 @@ use mathlib.Core.Option.{Option, none, some}
 use lib.Dec.{eqb}
 use lib.ListN.{length}
 use borrow.Author.Tests.{eqb-true}
-use Rattle.lexer.specs.declared.Kind.{Kind}
 use Rattle.lexer.specs.declared.Kind.the-variants as K
 use Rattle.lexer.specs.Tokens as T
 use Rattle.lexer.specs.Tokens.{Tokens}
@@ -25,7 +24,6 @@ use Rattle.tokens.specs.declared.Eaten.{Eaten}
 use Rattle.tokens.specs.declared.Taken.{Taken}
 use Rattle.tokens.specs.declared.Eaten.the-variants as E
 use Rattle.tokens.specs.declared.Taken.the-variants as G
-use Rattle.tokens.specs.declared.Part.{Part}
 use Rattle.tokens.specs.declared.Part.the-variants.{From}
 use Rattle.tokens.specs.Promise.{stream, startIn, endIn, textIn, markOf, nameOf, atOf, stringOf, arrival, LiesIn, Lies, Eats, Expects, Identifies, TakesString}
 use Rattle.parser.specs.Steps.{placed, Onward}

@@ -31,6 +31,7 @@ use Rattle.tokens.specs.declared.Taken.{Taken}
 use Rattle.tokens.specs.declared.Taken.the-variants as G
 use Rattle.tokens.specs.declared.Part.{Part}
 use Rattle.tokens.specs.declared.Part.the-variants.{From, Nothing}
+use Rattle.tree.proofs.Back.{nodes-some}
 use Rattle.parser.proofs.Stored.{stores-then}
 use Rattle.parser.proofs.Onward.{placed-in, placed-from, start-small, end-in, next-onward, name-onward, string-onward}
 use Rattle.parser.proofs.Lists.{Listing, flat-more}
@@ -239,7 +240,8 @@ module _ {s : List ℕ} {t v : Current} {n x m y p c : ℕ} (a : Ready s t n x) 
 
 -- ------------------------------------------------------------------ a node behind its children
 
-one-text : (y : Node) → length (textsOf (y ∷ [])) ≡ length (y .row .text)
+-- the texts of a node alone
+pub one-text : (y : Node) → length (textsOf (y ∷ [])) ≡ length (y .row .text)
 unfolding textsOf
 one-text y = ap length (append-nil (y .row .text))
 
@@ -310,11 +312,6 @@ module _ {A : Type 0} (f : A → Branch) where
   pub nodes-over : (r : Row) (xs : List A) → nodes (branch r (each f xs []ᴮ)) ≡ flat (nodesOf f) xs ++ record { row = r; children = length xs } ∷ []
   unfolding nodes count
   nodes-over r xs = let n : length xs + 0 ≡ length xs = omega arith in rw (nodes-each xs []ᴮ, count-each xs []ᴮ, n, append-nil)
-
--- each branch has a node
-pub nodes-some : (b : Branch) → 0 < length (nodes b)
-unfolding nodes
-nodes-some (branch r bs) = let l = length-append (nodesAll bs) (record { row = r; children = count bs } ∷ []) in omega arith
 
 module _ {A : Type 0} (f : A → Branch) where
   pub flat-length : (xs : List A) → length xs ≤ length (flat (nodesOf f) xs)

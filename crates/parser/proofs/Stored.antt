@@ -35,12 +35,13 @@ written-then out at n u v e h =
     rw (written-in out at (u ++ v) (let l = length-append u v in omega arith)) (
     ap (λ (l : List ℕ). l ++ drop (at + length (u ++ v)) out) (append-assoc a u v)))
 
-words-append : (rs qs : List Record) → words (rs ++ qs) ≡ words rs ++ words qs
+-- the words of records one after another
+pub words-append : (rs qs : List Record) → words (rs ++ qs) ≡ words rs ++ words qs
 unfolding words
 words-append [] qs = refl
 words-append (r ∷ rs) qs = rw (words-append rs qs) (sym (append-assoc (wordsOf r) (words rs) (words qs)))
 
-words-length : (at : ℕ) (xs : List Node) → length (words (recordsFrom at xs)) ≡ width * length xs
+pub words-length : (at : ℕ) (xs : List Node) → length (words (recordsFrom at xs)) ≡ width * length xs
 unfolding words recordsFrom
 words-length at [] = refl
 words-length at (x ∷ xs) = let l = words-length (at + length (x .row .text)) xs in omega arith

@@ -1,6 +1,6 @@
 -- Expressions put together from what was read of them.
 -- Assumes nothing.
-use Prim.Native.Nat.{ℕ, zero, suc, _+_, _-_, _*_, _≤_, _<_}
+use Prim.Native.Nat.{ℕ, zero, suc, _+_, _*_, _≤_, _<_}
 use native.Mathlib.Omega.{arith}
 use mathlib.Core.Path.{_≡_, refl, ap, sym, _∙_}
 use mathlib.Core.Bool.{Bool, true, false}
@@ -30,13 +30,9 @@ use Rattle.parser.specs.declared.parts.Shape.the-variants.{Name, Literal
 use Rattle.parser.proofs.Stored.{stores-then}
 use Rattle.parser.proofs.Onward.{placed-in, start-small, onward-then, onward-least}
 use Rattle.parser.proofs.Lists.{length-snoc, lays-then, lays-between}
-use Rattle.parser.proofs.Ready.{nodes-each, count-each}
+use Rattle.parser.proofs.Ready.{one-text, nodes-each, count-each}
 use Rattle.parser.proofs.PartRules.{nodes-literal}
 use Rattle.parser.proofs.Shown.{nodes-repeated, nodes-sequence, several, alone, content-is, shown-within, shown-special, shown-sequence, shown-repeat}
-
-one-text : (y : Node) → length (textsOf (y ∷ [])) ≡ length (y .row .text)
-unfolding textsOf
-one-text y = let k = length-append (y .row .text) [] in omega arith
 
 pub no-texts : length (textsOf []) ≡ 0
 unfolding textsOf

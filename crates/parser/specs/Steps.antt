@@ -21,7 +21,6 @@ use Rattle.tokens.specs.declared.Current.{Current}
 use Rattle.tokens.specs.declared.Current.the-variants.{Token, End}
 use Rattle.tokens.specs.declared.Arrived.{Arrived}
 use Rattle.tokens.specs.declared.Arrived.the-variants.{At, Refused}
-use Rattle.tokens.specs.declared.Part.{Part}
 use Rattle.tokens.specs.declared.Part.the-variants.{From, Nothing}
 use Rattle.parser.specs.declared.props.Parsed.{Parsed}
 use Rattle.parser.specs.declared.props.Parsed.the-variants as P

@@ -3,11 +3,9 @@
 use Rattle.tokens.proofs.Told.{taken-told}
 use borrow.Author.Needs.{needs}
 use native.Mathlib.Omega.{arith}
-use mathlib.Core.Path.{_≡_, refl, sym, _∙_}
-use Rattle.parser.proofs.Onward.{start-small}
 use Rattle.parser.proofs.Ready.{part-short, name-got, put-asks, taken-at, taken-not}
 use Rattle.parser.proofs.HeadRules.{short-asks}
-use Rattle.declarations.proofs.SourceLaws.{source-at, source-not, from-small, source-few}
+use Rattle.declarations.proofs.SourceLaws.{source-at, source-not, source-few}
 use Rattle.declarations.proofs.PropLaws.{as-at, as-not, prop-name, prop-as, prop-source, prop-given, name-next, prop-last}
 use Rattle.declarations.proofs.externals.parse_external_prop.Statement.{statement}
 use Rattle.declarations.proofs.externals.parse_external_prop.Tie as tie

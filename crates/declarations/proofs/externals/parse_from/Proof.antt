@@ -3,8 +3,7 @@
 use Rattle.tokens.proofs.Told.{taken-told}
 use borrow.Author.Needs.{needs}
 use native.Mathlib.Omega.{arith}
-use mathlib.Core.Path.{_≡_, refl, sym, _∙_}
-use Rattle.parser.proofs.Ready.{part-short, ready-step, name-got, taken-at, taken-not}
+use Rattle.parser.proofs.Ready.{part-short, name-got, taken-at, taken-not}
 use Rattle.parser.proofs.HeadRules.{short-asks}
 use Rattle.declarations.proofs.SourceLaws.{source-at, source-not, from-name, from-source, from-given, from-small, source-few, source-next}
 use Rattle.declarations.proofs.externals.parse_from.Statement.{statement}

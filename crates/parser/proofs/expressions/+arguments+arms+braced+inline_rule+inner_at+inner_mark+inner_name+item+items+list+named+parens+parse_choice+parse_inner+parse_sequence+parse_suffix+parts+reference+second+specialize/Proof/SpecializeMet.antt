@@ -1,5 +1,5 @@
 -- `specialize`: what its code asks. Assumes nothing.
-use Prim.Native.Nat.{ℕ, _+_, _-_}
+use Prim.Native.Nat.{ℕ}
 use native.Mathlib.Omega.{arith}
 use borrow.Author.Needs.{needs}
 use Rattle.parser.proofs.Ready.{ready-on, put-plain-asks, lists-small}
