@@ -39,7 +39,7 @@ same-length-2 : tie.Need-same-length-2
 same-length-2 c = search needs
 
 returns-2 : tie.Need-returns-2
-returns-2 c = block-gathered (c .before .before .before .before .before .before .before .before .before .before .before .before .before .before .before .before .before .before .args .block) _ _ (c .before .before .before .before .before .before .before .before .before .before .before .before .before .before .before .before .before .before .pre .lies) _ (c .before .before .before .before .before .before .before .before .before .before .before .before .before .before .expect-punctuation .ensures) (c .before .before .before .before .before .before .before .before .before .before .before .before .u .given .1) _ _ _ _ _ _ (c .before .before .before .before .before .before .parse-members .result) (c .before .before .before .before .before .before .parse-members .ensures)
+returns-2 c = block-gathered (c .before .before .before .before .before .before .before .before .before .before .before .before .before .before .before .before .before .before .args .block) _ _ (c .before .before .before .before .before .before .before .before .before .before .before .before .before .before .before .before .before .before .pre .lies) _ (c .before .before .before .before .before .before .before .before .before .before .before .before .before .before .expect-punctuation .ensures) (c .before .before .before .before .before .before .before .before .before .before .before .before .u .given .1) _ _ _ _ _ _ (c .before .before .before .before .before .before .parse-members .result) (c .before .before .before .before .before .before .parse-members .ensures .0)
 
 pub parse-block-spec : {M : Type 1} → statement M
 parse-block-spec =
