@@ -18,7 +18,7 @@ use Rattle.error.specs.declared.Refusal as declared
 use Rattle.tree.specs.Syntax.{GrammarDeclaration}
 use Rattle.tree.specs.Stored.{grammarWords, grammarTexts}
 use Rattle.spelling.specs.NormalText.{normalText}
-use Rattle.writer.specs.Promise.{Stored, tooLong, WroteWithin, WroteNormalWithin}
+use Rattle.writer.specs.Promise.{Stored, tooLong, WroteNormalWithin}
 use Rattle.writer.specs.declared.Written.{Written}
 use Rattle.writer.specs.declared.Written.the-variants.{Bytes, TooLong}
 use Rattle.grammar.specs.Reading.{Reading, tree, stopped, reading, longest}

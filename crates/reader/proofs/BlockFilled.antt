@@ -7,8 +7,9 @@ use mathlib.Core.Path.{_≡_, refl, ap, sym, _∙_}
 use mathlib.Core.Bool.{Bool, true, false}
 use mathlib.Core.List.{List, [], _∷_, _++_, append-nil}
 use lib.Dec.{eqb, eqb→eq}
-use lib.ListN.{length, take, getD, List·getD-eq-default}
-use lib.Seq.{take-all}
+use lib.ListN.{length, take, getD, List·getD-eq-default, set}
+use lib.Seq.{take-all, getD-set-same}
+use Rattle.basics.proofs.Lists.{front-none}
 use Rattle.basics.specs.Basics.{if_then_else_}
 use Rattle.error.specs.declared.Cause.{Cause}
 use Rattle.error.specs.Promise.{causeNumber}
@@ -23,12 +24,12 @@ use Rattle.parser.specs.declared.props.Listed.the-variants.{Done, Refused}
 use Rattle.parser.proofs.Onward.{placed-in}
 use Rattle.reader.specs.Groups.{groupsOf, Gathers}
 use Rattle.reader.specs.Places.{placeIn, groupAt, Fills, sum, linedUp, Blank, Begins}
-use Rattle.reader.specs.Blocks.{MemberOf, membersOf, kindOf, branchesOf, kindsOf, placeOf, blockCount, Spreads, SpreadsTo, Roomy}
+use Rattle.reader.specs.Blocks.{MemberOf, membersOf, kindOf, branchesOf, kindsOf, placeOf, blockCount, Spreads, SpreadsTo, FirstIs, FirstTo, Roomy}
 use Rattle.reader.specs.declared.blocks.Block.{Block}
 use Rattle.reader.specs.declared.blocks.Block.the-variants.{Tokens, LocalTokens, ExternalTokens, Specializer, Skip}
 use Rattle.reader.proofs.GroupSizes.{number, nodes-of, bytes-of, block-weighs, kinds-nonzero, kinds-few}
 use Rattle.reader.proofs.Gathered.{together}
-use Rattle.reader.proofs.BlockGathered.{front-none, stores-sizes, stores-again}
+use Rattle.reader.proofs.BlockGathered.{stores-sizes, stores-again}
 use Rattle.reader.proofs.PlaceLaws.{Distinct}
 use Rattle.reader.proofs.GroupPlaces.{in-words, in-bytes, nodes-on, lined-at, lined-length, sum-part, sizes-are, lined-are}
 use Rattle.reader.proofs.GroupFilled.{groups-written}
@@ -116,6 +117,9 @@ module _ (b : Block) (s : List ℕ) (t : Current) (ps qs ps₁ qs₁ ws ts vs us
   pub spread-not : {c : Cause} {p : ℕ} → r ≡ Refused c p → membersOf b (stream s t) ≡ refused (causeNumber c) p
   spread-not q = rw q at h
 
+pub first-at : (b : Block) (s : List ℕ) (t : Current) (sizes : List ℕ) (r : Listed) → FirstTo b s t sizes r → {u : Current} {n x count : ℕ} → r ≡ Done u n x count → FirstIs b s t (getD sizes 0 0)
+first-at b s t sizes r h q = rw q at h
+
 -- a part of no words, or no bytes, stands before all of them
 module _ {b : Block} {s : List ℕ} {t : Current} {ps qs ps₁ qs₁ es fs gs hs : List ℕ} {v : Current} {m y children : ℕ} (g : Spreads b s t ps qs ps₁ qs₁ es fs gs hs v m y children) where
   pub before-words : length es ≡ 0 → (ws : List ℕ) → gs ++ ws ≡ ws
@@ -173,7 +177,7 @@ module _ {b : Block} {s : List ℕ} {t : Current} {n x : ℕ} (r : Roomy s t n x
   pub spread-small : (n + m < 2 ^ 64) × (x + y < 2 ^ 64)
   spread-small = let a = taken-few .0 in let c = taken-few .1 in (omega arith, omega arith)
 
-  all-words : length ps ≡ blockCount
+  pub all-words : length ps ≡ blockCount
   all-words = g .fills .same-places ∙ z₁ .all
 
   all-bytes : length qs ≡ blockCount
@@ -190,6 +194,9 @@ module _ {b : Block} {s : List ℕ} {t : Current} {n x : ℕ} (r : Roomy s t n x
 
   byte-sizes : (i : ℕ) → i < blockCount → getD qs i 0 ≡ in-bytes .size (groupOf b found i)
   byte-sizes i l = let a = g .fills .bytes-on i l in let c = z₂ .none i in omega arith
+
+  pub first-size : FirstIs b s t (getD ps 0 0)
+  first-size ms us e = let q : found ≡ ms = together (g .gathers .gives) e in rw (← q) (word-sizes 0 (omega arith))
 
   words-sum : sum ps ≡ m
   words-sum =
@@ -265,6 +272,13 @@ module _ {b : Block} {s : List ℕ} {t : Current} {n x : ℕ} (r : Roomy s t n x
         }
 
     module _ {ps₂ qs₂ ws ts vs us : List ℕ} {u : Current} {m₂ y₂ c₂ : ℕ} (k : Spreads b s t ps₁ qs₁ ps₂ qs₂ ws ts vs us u m₂ y₂ c₂) where
+      pub all-after : length ps₂ ≡ blockCount
+      all-after = k .fills .same-places ∙ lined-begins .words-all
+
+      -- the size of the first group is put back
+      pub first-kept : FirstIs b s t (getD (set ps₂ 0 (getD ps 0 0)) 0 0)
+      first-kept ms us e = getD-set-same ps₂ 0 (getD ps 0 0) 0 (let a = all-after in omega arith) ∙ first-size ms us e
+
       fills : Fills (placeOf b) (branchesOf b) blockCount found ps₁ qs₁ ps₂ qs₂ ws ts vs us
       fills = let q : k .gathers .members ≡ found = together (k .gathers .gives) (g .gathers .gives) in rw q at (k .fills)
 

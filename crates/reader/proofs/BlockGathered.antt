@@ -5,12 +5,12 @@ use native.Mathlib.Omega.{arith}
 use mathlib.Core.Path.{_≡_, refl, _∙_}
 use mathlib.Core.Bool.{true}
 use lib.Dec.{eqb, eqb→eq}
-use mathlib.Core.List.{List, [], _∷_, _++_}
+use mathlib.Core.List.{List, [], _∷_}
 use lib.ListN.{length}
 use Rattle.lexer.specs.Tokens.{Tokens}
 use Rattle.characters.specs.Promise.{written}
 use Rattle.characters.proofs.Written.{length-written}
-use Rattle.tree.specs.Records.{Node, nodes, textsOf}
+use Rattle.tree.specs.Records.{Node, textsOf}
 use Rattle.notation.specs.Parser.{Answer, read, refused, andThen, _>>=_, expect}
 use Rattle.notation.specs.Declarations.{block}
 use Rattle.tokens.specs.Promise.{stream, LiesIn, Expects}
@@ -32,10 +32,6 @@ use Rattle.reader.specs.declared.blocks.Block.{Block}
 
 pub is-zero : (n : ℕ) → eqb n 0 ≡ true → n ≡ 0
 is-zero n e = eqb→eq n 0 (rw e tt)
-
-pub front-none : (e r : List ℕ) → length e ≡ 0 → e ++ r ≡ r
-front-none [] r h = refl
-front-none (x ∷ e) r h = absurd (omega arith)
 
 pub both-none : (v w : List ℕ) → length v ≡ 0 → length w ≡ 0 → v ≡ w
 both-none [] [] h k = refl

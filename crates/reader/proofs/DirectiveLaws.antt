@@ -7,7 +7,7 @@ use mathlib.Core.Bool.{Bool, true, false, not}
 use mathlib.Core.List.{List, [], _∷_, _++_, append-assoc, append-nil}
 use borrow.Author.Tests.{eq-eqb, ne-eqb}
 use lib.Dec.{eqb}
-use lib.ListN.{length, getD}
+use lib.ListN.{length}
 use Rattle.basics.specs.Basics.{letters, every, isEmpty, picked, firstOf, concat}
 use Rattle.error.specs.Causes.{unexpectedToken, secondSkip}
 use Rattle.error.specs.declared.Cause.{Cause}
@@ -33,8 +33,6 @@ use Rattle.tokens.specs.declared.Arrived.{Arrived}
 use Rattle.tokens.specs.declared.Arrived.the-variants.{At, Refused}
 use Rattle.tokens.specs.declared.Taken.{Taken}
 use Rattle.tokens.specs.declared.Taken.the-variants as G
-use Rattle.parser.specs.declared.props.Listed.{Listed}
-use Rattle.parser.specs.declared.props.Listed.the-variants as L
 use Rattle.parser.specs.declared.props.Parsed.{Parsed}
 use Rattle.parser.specs.declared.props.Parsed.the-variants as P
 use Rattle.parser.specs.declared.parts.Shape.{Shape}
@@ -47,8 +45,8 @@ use Rattle.declarations.specs.Sources.{GotSource}
 use Rattle.declarations.proofs.SourceLaws.{source-few}
 use Rattle.declarations.proofs.RuleReads.{levels-are}
 use Rattle.reader.specs.Groups.{groupsOf, Gathers}
-use Rattle.reader.specs.Places.{placeIn, groupAt, Blank}
-use Rattle.reader.specs.Blocks.{MemberOf, memberOf, commaOf, kindsOf, kindOf, branchesOf, membersOf, placeOf, blockCount, Spreads, SpreadsTo, Roomy}
+use Rattle.reader.specs.Places.{placeIn, groupAt}
+use Rattle.reader.specs.Blocks.{MemberOf, memberOf, commaOf, kindsOf, kindOf, branchesOf, membersOf, placeOf, FirstIs, Roomy}
 use Rattle.reader.specs.Directives.{past, localAt, tokensBranch, localBranch, SetOf, externalSet, setNodes, skips, HoldsTop, Scoping, Scopes, SeenIs, Declares, DeclaresTo}
 use Rattle.reader.specs.declared.blocks.Block.{Block}
 use Rattle.reader.specs.declared.directives.Seen.{Seen}
@@ -377,17 +375,6 @@ some-size [] [] n e f = rw (eq-eqb n 0 (omega arith))
 some-size [] (b ∷ bs) n e f = absurd (omega arith)
 some-size (x ∷ xs) bs n e f = let g = flat-length (λ (x : Branch). x) bs in rw (ne-eqb n 0 (λ z. omega arith))
 
-no-read : {A : Type 0} {c p : ℕ} {x : A} {us : Tokens ℕ} → refused c p ≡ read x us → ⊥
-no-read e = let z : _≡_ {A = ℕ} 0 1 = cc in omega arith
-
-same-read : {A : Type 0} {x y : A} {us vs : Tokens ℕ} → read x us ≡ read y vs → x ≡ y
-same-read e = cc
-
--- a part without words stays so
-pub none-before : (xs ys : List ℕ) → length xs ≡ 0 → xs ++ ys ≡ ys
-none-before [] ys e = refl
-none-before (x ∷ xs) ys e = absurd (omega arith)
-
 skips-halt : (ts : Tokens ℕ) {c p : ℕ} → expect "{" ts ≡ refused c p → skips ts ≡ refused c p
 unfolding _>>=_ andThen
 skips-halt ts e = rw e
@@ -396,32 +383,18 @@ skips-at : (ts : Tokens ℕ) {us : Tokens ℕ} → expect "{" ts ≡ read tt us 
 unfolding _>>=_ andThen
 skips-at ts e = rw e
 
--- a block that is not read has none, and one that is read has those that were counted
-module _ (s : List ℕ) (t : Current) where
-  unread : {c p : ℕ} {b : Bool} → skips (stream s t) ≡ refused c p → HoldsTop s t b
-  unread e = λ ms us f. absurd (no-read (sym e ∙ f))
+-- those that are read are those that the first group's size counts
+pub first-top : (s : List ℕ) (t : Current) (r : Arrived) → Expects s t 0x7B r → {u : Current} → r ≡ At u → {n : ℕ} → FirstIs Skip s u n → HoldsTop s t (not (eqb n 0))
+first-top s t r h q {n} f ms us e =
+    some-size (picked skipTopRule ms) (groupAt (placeOf Skip) (branchesOf Skip) 0 ms) n (tops-group ms) (f ms us (sym (skips-at (stream s t) (expect-at s "{" t r h q)) ∙ e))
 
-  module _ (r : Arrived) (h : Expects s t 0x7B r) where
-    pub unopened-top : {c : Cause} {p : ℕ} → r ≡ Refused c p → HoldsTop s t false
-    unopened-top q = unread (skips-halt (stream s t) (expect-not s "{" t r h q))
-
-    module _ {u : Current} (q : r ≡ At u) (ps qs ps₁ qs₁ ws ts vs us : List ℕ) (f : Listed) (g : SpreadsTo Skip s u ps qs ps₁ qs₁ ws ts vs us f) where
-      pub unlisted-top : {c : Cause} {p : ℕ} → f ≡ L.Refused c p → HoldsTop s t false
-      unlisted-top z = unread (skips-at (stream s t) (expect-at s "{" t r h q) ∙ (rw z at g))
-
-      pub listed-top : Blank blockCount ps → {v : Current} {n x count : ℕ} → f ≡ L.Done v n x count → HoldsTop s t (not (eqb (getD ps₁ 0 0) 0))
-      listed-top none {v} {n} {x} {count} z =
-          let k : Spreads Skip s u ps qs ps₁ qs₁ ws ts vs us v n x count = rw z at g in
-          let on = k .fills .words-on 0 (omega arith) in
-          let begin = none .none 0 in
-          λ ms ls e.
-          let same : k .gathers .members ≡ ms = same-read (sym (skips-at (stream s t) (expect-at s "{" t r h q) ∙ k .gathers .gives) ∙ e) in
-          some-size (picked skipTopRule ms) (groupAt (placeOf Skip) (branchesOf Skip) 0 (k .gathers .members)) (getD ps₁ 0 0) (tops-group (k .gathers .members) ∙ ap (λ ns. length (picked skipTopRule ns)) same) (omega arith)
+pub scoped-unopened : (s : List ℕ) (t : Current) (r : Arrived) → Expects s t 0x7B r → {c : Cause} {p : ℕ} → r ≡ Refused c p → skips (stream s t) ≡ refused (causeNumber c) p
+scoped-unopened s t r h q = skips-halt (stream s t) (expect-not s "{" t r h q)
 
 -- ------------------------------------------------------------------ scoped skips
 
-pub scoping : {start : ℕ} {s : List ℕ} {t v : Current} {n x m k y count : ℕ} {ws ts ws₁ ts₁ vs us vs₁ : List ℕ} {top : Bool} → HoldsTop s t top × (ws₁ ≡ ws) × (ts₁ ≡ ts)
-    → Gathers (blockOf Skip (stream s t)) (groups Skip) s t 2 (lent n ws₁ x ts₁) v (lent m vs y us) count → StoresPlain (node 23 start [] 0 0 (1 + count)) m vs k vs₁
+pub scoping : {start : ℕ} {s : List ℕ} {t v : Current} {n x m k y count : ℕ} {ws ts vs us vs₁ : List ℕ} {top : Bool} → HoldsTop s t top
+    → Gathers (blockOf Skip (stream s t)) (groups Skip) s t 2 (lent n ws x ts) v (lent m vs y us) count → StoresPlain (node 23 start [] 0 0 (1 + count)) m vs k vs₁
     → Scoping start s t (lent n ws x ts) v (lent k vs₁ y us) 23 top
 scoping {s = s} {v = v} {y = y} {us = us} h g st =
     record {
@@ -429,8 +402,8 @@ scoping {s = s} {v = v} {y = y} {us = us} h g st =
       gives = g .gives;
       onward = g .onward;
       kinds = refl;
-      tops = h .0 (g .members) (stream s v) (g .gives);
-      lays = rw (g .counted) (lays-node (rw (h .1, h .2) at (g .lays)) (st .stores y us) (omega arith) (omega arith));
+      tops = h (g .members) (stream s v) (g .gives);
+      lays = rw (g .counted) (lays-node (g .lays) (st .stores y us) (omega arith) (omega arith));
     }
 
 -- ------------------------------------------------------------------ `@skip`

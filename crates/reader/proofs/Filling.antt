@@ -12,23 +12,14 @@ use lib.Seq.{length-take-le, getD-append-add, getD-take, getD-drop, getD-set-sam
 use Rattle.basics.specs.Basics.{if_then_else_}
 use Rattle.characters.specs.Promise.{written}
 use Rattle.characters.proofs.Written.{written-in}
-use Rattle.tree.specs.Records.{Branch, Node, Record, nodes, wordsOf, width, recordsFrom, words, textsOf}
+use Rattle.tree.specs.Records.{Branch, Node, nodes, width, recordsFrom, words, textsOf}
 use Rattle.tree.proofs.Encoded.{records-append, texts-append}
 use Rattle.parser.specs.Storing.{lent, Stores, flat}
 use Rattle.parser.proofs.Lists.{flat-append, flat-none}
+use Rattle.parser.proofs.Stored.{words-length, words-append}
 use Rattle.reader.specs.Places.{Holds, HoldsAll, Filled, groupAt, Fills}
 
 -- ------------------------------------------------------------------ the words of records
-
-pub words-length : (at : ℕ) (xs : List Node) → length (words (recordsFrom at xs)) ≡ width * length xs
-unfolding words recordsFrom
-words-length at [] = refl
-words-length at (x ∷ xs) = let l = words-length (at + length (x .row .text)) xs in omega arith
-
-pub words-append : (rs qs : List Record) → words (rs ++ qs) ≡ words rs ++ words qs
-unfolding words
-words-append [] qs = refl
-words-append (r ∷ rs) qs = rw (words-append rs qs) (sym (append-assoc (wordsOf r) (words rs) (words qs)))
 
 -- ------------------------------------------------------------------ parts of a list
 

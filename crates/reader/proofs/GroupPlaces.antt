@@ -11,11 +11,12 @@ use Rattle.tree.specs.Records.{Branch, Node, nodes, width, recordsFrom, words, 
 use Rattle.tree.proofs.Encoded.{records-append, texts-append}
 use Rattle.parser.specs.Storing.{flat}
 use Rattle.parser.proofs.Lists.{flat-append}
+use Rattle.parser.proofs.Stored.{words-length, words-append}
 use Rattle.reader.specs.Groups.{wants, allOf, groupsOf}
 use Rattle.reader.specs.Places.{placeIn, groupAt, Holds, sum, linedUp}
 use Rattle.reader.proofs.GroupSizes.{groups-next, Nonzero}
 use Rattle.reader.proofs.PlaceLaws.{Distinct, place-test}
-use Rattle.reader.proofs.Filling.{words-length, words-append, holds-first, holds-rest, holds-both}
+use Rattle.reader.proofs.Filling.{holds-first, holds-rest, holds-both}
 
 -- ------------------------------------------------------------------ a group by its kind
 

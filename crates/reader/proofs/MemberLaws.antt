@@ -7,6 +7,7 @@ use mathlib.Core.Path.{_≡_, refl, sym, _∙_}
 use mathlib.Core.Bool.{Bool, true, false}
 use mathlib.Core.List.{List, [], _∷_, _++_, append-nil}
 use lib.ListN.{length}
+use Rattle.basics.proofs.Lists.{front-none}
 use Rattle.basics.specs.Basics.{letters, isEmpty, picked}
 use Rattle.error.specs.declared.Cause.{Cause}
 use Rattle.error.specs.Promise.{causeNumber}
@@ -195,17 +196,13 @@ module _ (before : List (LocalMember ℕ)) (ts : Tokens ℕ) where
 
 -- ------------------------------------------------------------------ a member whose kind is wanted or not
 
-nothing-before : (xs ys : List ℕ) → length xs ≡ 0 → xs ++ ys ≡ ys
-nothing-before [] ys e = refl
-nothing-before (x ∷ xs) ys e = absurd (omega arith)
-
 -- a part of no words, or no bytes, stands before all of them
 module _ {xs : List Node} {a b : Lent} (st : Stores xs a b) where
   pub no-words : length (a .words) ≡ 0 → (ws : List ℕ) → b .words ++ ws ≡ ws
-  no-words e ws = nothing-before (b .words) ws (st .same-words ∙ e)
+  no-words e ws = front-none (b .words) ws (st .same-words ∙ e)
 
   pub no-texts : length (a .texts) ≡ 0 → (ts : List ℕ) → b .texts ++ ts ≡ ts
-  no-texts e ts = nothing-before (b .texts) ts (st .same-texts ∙ e)
+  no-texts e ts = front-none (b .texts) ts (st .same-texts ∙ e)
 
 -- members before, of which one is a fallback or none is
 pub record Before (b : Block) (free : Bool) : Type 0 where

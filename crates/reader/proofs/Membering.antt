@@ -12,7 +12,7 @@ use Rattle.basics.specs.Basics.{isEmpty, picked}
 use Rattle.error.specs.declared.Cause.{Cause}
 use Rattle.error.specs.Promise.{causeNumber}
 use Rattle.tree.specs.Records.{Branch, nodes}
-use Rattle.notation.specs.Parser.{read, refused, andThen, pure, untilStep, eat}
+use Rattle.notation.specs.Parser.{refused, andThen, pure, untilStep, eat}
 use Rattle.notation.specs.Members.{LocalMember, localFallback}
 use Rattle.tokens.specs.Promise.{stream, LiesIn}
 use Rattle.parser.specs.Storing.{Lent, lent, flat}

@@ -3,10 +3,11 @@
 use Prim.Native.Nat.{ℕ, zero, suc, _+_, _*_, _≤_, _<_, _^_}
 use native.Mathlib.Omega.{arith}
 use mathlib.Core.Path.{_≡_, refl, ap, sym, _∙_}
-use mathlib.Core.Bool.{Bool, true, false, not}
+use mathlib.Core.Bool.{true, false, not}
 use mathlib.Core.List.{List, [], _∷_, _++_}
 use borrow.Author.Tests.{not-true, not-false}
 use lib.ListN.{length, length-append, getD}
+use Rattle.basics.proofs.Lists.{front-none}
 use Rattle.basics.specs.Basics.{isEmpty, picked}
 use Rattle.error.specs.Causes.{noTop, recordsFull, textsFull}
 use Rattle.error.specs.declared.Cause.{Cause}
@@ -38,9 +39,8 @@ use Rattle.reader.specs.declared.whole.Noted.{Noted}
 use Rattle.reader.specs.declared.whole.Passed.{Passed}
 use Rattle.reader.specs.declared.whole.Passed.the-variants as P
 use Rattle.reader.specs.declared.whole.Whole.{Whole}
-use Rattle.reader.proofs.BlockGathered.{front-none}
 use Rattle.reader.proofs.GroupSizes.{Weight, nodes-of, bytes-of, groups-next, groups-weigh}
-use Rattle.reader.proofs.Filling.{words-length}
+use Rattle.parser.proofs.Stored.{words-length}
 use Rattle.reader.proofs.GrammarGroups.{top-one, grammarChildren, grammar-nodes}
 
 -- ------------------------------------------------------------------ sizes

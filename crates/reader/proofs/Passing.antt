@@ -4,15 +4,15 @@ use Prim.Native.Nat.{ℕ, _+_, _≤_}
 use native.Mathlib.Omega.{arith}
 use mathlib.Core.Path.{_≡_, refl, ap, _∙_}
 use mathlib.Core.Bool.{Bool, true, false, _||_}
-use mathlib.Core.List.{List, [], _∷_}
+use mathlib.Core.List.{List, []}
 use mathlib.Core.Option.{Option, none, some}
 use lib.Dec.{eqb}
 use lib.ListN.{length, length-append}
+use Rattle.notation.proofs.Turns.{separate-nothing}
 use Rattle.basics.specs.Basics.{if_then_else_}
-use Rattle.lexer.specs.Tokens.{Tokens}
 use Rattle.lexer.specs.declared.Kind.{Kind}
 use Rattle.tree.specs.Records.{Node, nodes, textsOf}
-use Rattle.notation.specs.Parser.{read, refused, Parser, andThen, _>>=_, pure, choose, kind, kindOf, isEnd, separate, untilStep, nothing}
+use Rattle.notation.specs.Parser.{read, refused, Parser, andThen, _>>=_, pure, choose, kind, kindOf, isEnd, untilStep, nothing}
 use Rattle.notation.specs.Members.{Member}
 use Rattle.notation.specs.Declarations.{parseDeclaration}
 use Rattle.tokens.specs.Promise.{stream, LiesIn}
@@ -48,11 +48,6 @@ step = untilStep (kind >>= λ k. pure (isEnd k)) nothing parseDeclaration
 
 -- ------------------------------------------------------------------ one turn
 
-parted : (before : List (Member ℕ)) (ts : Tokens ℕ) → separate nothing before ts ≡ read tt ts
-unfolding separate pure
-parted [] ts = refl
-parted (m ∷ ms) ts = refl
-
 module _ (s : List ℕ) (before : List (Member ℕ)) where
   end-step : (t : Current) {p : ℕ} → t ≡ End p → step before (stream s t) ≡ read none (stream s t)
   unfolding untilStep _>>=_ andThen kind kindOf pure choose stream
@@ -60,7 +55,7 @@ module _ (s : List ℕ) (before : List (Member ℕ)) where
 
   open-step : (t : Current) → IsToken t → step before (stream s t) ≡ andThen (parseDeclaration before (stream s t)) (λ x. pure (some x))
   unfolding untilStep _>>=_ andThen kind kindOf pure choose stream
-  open-step (Token k a e) i = rw (parted before (stream s (Token k a e)))
+  open-step (Token k a e) i = rw (separate-nothing before (stream s (Token k a e)))
   open-step (End p) i = absurd i
 
 pub is-token : {t : Current} {k : Kind} {a e : ℕ} → t ≡ Token k a e → IsToken t

@@ -24,6 +24,7 @@ use Rattle.parser.proofs.Onward.{placed-in, start-small}
 use Rattle.parser.proofs.Ready.{flat-length}
 use Rattle.tokens.specs.Promise.{stream, startIn, LiesIn}
 use Rattle.tokens.proofs.Stream.{start-of}
+use Rattle.parser.proofs.Stored.{words-length}
 use Rattle.reader.specs.Groups.{allOf}
 use Rattle.reader.specs.Places.{sum, linedUp, Fills, Begins}
 use Rattle.reader.specs.Directives.{memberKind, memberBranches}
@@ -33,7 +34,7 @@ use Rattle.reader.proofs.GroupSizes.{number, nodes-of, bytes-of, groups
 use Rattle.reader.proofs.Gathered.{together}
 use Rattle.reader.proofs.GrammarGroups.{top-one, grammarChildren, grammar-nodes}
 use Rattle.reader.proofs.TopPlaces.{stored-distinct}
-use Rattle.reader.proofs.Filling.{words-length, put-words, put-texts}
+use Rattle.reader.proofs.Filling.{put-words, put-texts}
 use Rattle.reader.proofs.GroupPlaces.{in-words, in-bytes, group-is}
 use Rattle.reader.proofs.WholeFilled.{stored-positive, firstOf, groupOf, sum-is, lined-is, places-all, place-first, place-eleven, place-behind, places-few, all-written}
 use Rattle.reader.proofs.ParseLaws.{words-of, texts-of, top-weighs, grammar-words, grammar-bytes, grammar-read}

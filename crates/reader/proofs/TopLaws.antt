@@ -9,6 +9,7 @@ use mathlib.Core.List.{List, [], _∷_, _++_, append-nil}
 use mathlib.Core.Option.{Option, none, some}
 use lib.Dec.{eqb}
 use lib.ListN.{length}
+use Rattle.basics.proofs.Lists.{front-none}
 use Rattle.basics.specs.Basics.{if_then_else_, letters, spells, picked}
 use Rattle.error.specs.Causes.{unexpectedToken, topWithoutName, secondTokens, secondPrecedence, secondContext}
 use Rattle.error.specs.Promise.{causeNumber}
@@ -272,10 +273,6 @@ module _ (k : Seen) (s : List ℕ) (t : Current) (r : Arrived) (h : (next (strea
           lays = lays-nothing a (omega arith);
         }
 
-    no-more : (xs ys : List ℕ) → length xs ≡ 0 → xs ++ ys ≡ ys
-    no-more [] ys e = refl
-    no-more (x ∷ xs) ys e = absurd (omega arith)
-
     -- names that were read without room
     pub dialects-declares : {v : Current} {n x m y count : ℕ} {ws ts vs us : List ℕ} → Lists (names (stream s u)) (nodesOf (nameBranch 24)) s u 2 (lent n [] x []) v (lent m vs y us) count
         → Declares (λ _. past dialectsAt (stream s t)) k s t (lent n ws x ts) v (lent n (vs ++ ws) x (us ++ ts)) 24 false
@@ -290,7 +287,7 @@ module _ (k : Seen) (s : List ℕ) (t : Current) (r : Arrived) (h : (next (strea
           kinds = refl;
           tops = refl;
           named = λ ns z. let y : f .items ≡ ns = cc in past-at s t r h q names ∙ f .gives ∙ rw y;
-          lays = rw (no-more vs ws (f .lays .stores .same-words), no-more us ts (f .lays .stores .same-texts)) (lays-nothing (lent n ws x ts) (omega arith));
+          lays = rw (front-none vs ws (f .lays .stores .same-words), front-none us ts (f .lays .stores .same-texts)) (lays-nothing (lent n ws x ts) (omega arith));
         }
 
 -- ------------------------------------------------------------------ what is true of all that is read

@@ -3,15 +3,17 @@
 use Prim.Native.Nat.{ℕ, _≤_}
 use native.Mathlib.Omega.{arith}
 use mathlib.Core.Path.{_≡_, refl, sym, _∙_}
-use mathlib.Core.Bool.{Bool, true, false, not, _||_}
+use mathlib.Core.Bool.{Bool, true, false, not, _||_, or-assoc, or-false, or-true}
 use mathlib.Core.List.{List, [], _∷_, _++_, append-nil}
-use mathlib.Core.Option.{Option, none, some}
+use mathlib.Core.Option.{none}
 use lib.Dec.{eqb}
 use lib.ListN.{length}
+use borrow.Author.Tests.{not-true, not-false}
+use Rattle.basics.proofs.Lists.{picked-one}
 use Rattle.basics.specs.Basics.{if_then_else_, concat, isEmpty, lastOf, orNot, picked}
 use Rattle.error.specs.declared.Cause.{Cause}
 use Rattle.error.specs.Promise.{causeNumber}
-use Rattle.tree.specs.Records.{nodes, textsOf}
+use Rattle.tree.specs.Records.{textsOf}
 use Rattle.tree.specs.Stored.{nameBranch}
 use Rattle.tree.specs.Syntax.{Identifier, Declaration, declarationKind, hasKind}
 use Rattle.notation.specs.Parser.{Answer, read, refused, next}
@@ -28,7 +30,7 @@ use Rattle.parser.specs.declared.props.Listed.{Listed}
 use Rattle.parser.specs.declared.props.Listed.the-variants as L
 use Rattle.parser.proofs.Stored.{stores-none}
 use Rattle.parser.proofs.Onward.{placed-in}
-use Rattle.parser.proofs.Lists.{flat-none, lays-none, lays-between}
+use Rattle.parser.proofs.Lists.{flat-none}
 use Rattle.reader.specs.Directives.{past, memberKind, memberBranches, memberTop, SeenIs, Declares, DeclaresTo}
 use Rattle.reader.specs.Whole.{Places, PlacesTo, recordsOf, noteOf, lastNames, NamedAt, NamedIs, NotedIs, HasNames, Names, NamesTo}
 use Rattle.reader.specs.declared.directives.Seen.{Seen}
@@ -41,37 +43,16 @@ use Rattle.reader.proofs.AheadLaws.{declaration-yields}
 
 -- ------------------------------------------------------------------ one more behind
 
-or-false : (b : Bool) → b || false ≡ b
-or-false true = refl
-or-false false = refl
-
-or-true : (b : Bool) → b || true ≡ true
-or-true true = refl
-or-true false = refl
-
-or-assoc : (a b c : Bool) → a || (b || c) ≡ (a || b) || c
-or-assoc true b c = refl
-or-assoc false b c = refl
-
-picked-more : {A B : Type 0} (f : B → Option A) (ms : List B) (m : B) → picked f (ms ++ m ∷ []) ≡ picked f ms ++ orNot (f m) []
-unfolding picked
-picked-more f [] m = refl
-picked-more f (x ∷ ms) m = rw (picked-more f ms m) (more (f x) (picked f ms) (orNot (f m) []))
-  where
-    more : {A : Type 0} (o : Option A) (xs ys : List A) → orNot o (xs ++ ys) ≡ orNot o xs ++ ys
-    more none xs ys = refl
-    more (some x) xs ys = refl
-
 -- a kind, and a top rule, among declarations
 kinds-more : (k : ℕ) (ds es : List (Declaration ℕ)) → hasKind k (ds ++ es) ≡ hasKind k ds || hasKind k es
 unfolding hasKind
 kinds-more k [] es = refl
-kinds-more k (d ∷ ds) es = rw (kinds-more k ds es) (or-assoc (eqb (declarationKind d) k) (hasKind k ds) (hasKind k es))
+kinds-more k (d ∷ ds) es = rw (kinds-more k ds es) (sym (or-assoc (eqb (declarationKind d) k) (hasKind k ds) (hasKind k es)))
 
 tops-more : (ds es : List (Declaration ℕ)) → hasTop (ds ++ es) ≡ hasTop ds || hasTop es
 unfolding hasTop
 tops-more [] es = refl
-tops-more (d ∷ ds) es = rw (tops-more ds es) (or-assoc (isTop d) (hasTop ds) (hasTop es))
+tops-more (d ∷ ds) es = rw (tops-more ds es) (sym (or-assoc (isTop d) (hasTop ds) (hasTop es)))
 
 -- a member is of a kind that only declarations have
 kind-one : (k : ℕ) (m : Member ℕ) → eqb 1 k ≡ false → eqb 24 k ≡ false → eqb 25 k ≡ false → hasKind k (orNot (declared m) []) ≡ eqb (memberKind m) k
@@ -82,7 +63,7 @@ kind-one k (externalProp x) e f g = sym g
 kind-one k detectDelim e f g = sym e
 
 seen-more : (k : ℕ) (ms : List (Member ℕ)) (m : Member ℕ) → eqb 1 k ≡ false → eqb 24 k ≡ false → eqb 25 k ≡ false → seen k (ms ++ m ∷ []) ≡ seen k ms || eqb (memberKind m) k
-seen-more k ms m e f g = rw (picked-more declared ms m, kinds-more k (picked declared ms) (orNot (declared m) []), kind-one k m e f g)
+seen-more k ms m e f g = rw (picked-one declared ms m, kinds-more k (picked declared ms) (orNot (declared m) []), kind-one k m e f g)
 
 top-one : (m : Member ℕ) → hasTop (orNot (declared m) []) ≡ memberTop m
 unfolding hasTop
@@ -92,7 +73,7 @@ top-one (externalProp x) = refl
 top-one detectDelim = refl
 
 top-more : (ms : List (Member ℕ)) (m : Member ℕ) → hasTop (picked declared (ms ++ m ∷ [])) ≡ hasTop (picked declared ms) || memberTop m
-top-more ms m = rw (picked-more declared ms m, tops-more (picked declared ms) (orNot (declared m) []), top-one m)
+top-more ms m = rw (picked-one declared ms m, tops-more (picked declared ms) (orNot (declared m) []), top-one m)
 
 -- no declaration has the kind of `@detectDelim` or of dialects
 no-detect : (d : Declaration ℕ) → eqb (declarationKind d) 1 ≡ false
@@ -129,7 +110,7 @@ detects-one [] (externalProp x) = refl
 detects-one [] detectDelim = refl
 
 detects-more : (ms : List (Member ℕ)) (m : Member ℕ) → not (isEmpty (picked detects (ms ++ m ∷ []))) ≡ not (isEmpty (picked detects ms)) || eqb (memberKind m) 1
-detects-more ms m = rw (picked-more detects ms m) (detects-one (picked detects ms) m)
+detects-more ms m = rw (picked-one detects ms m) (detects-one (picked detects ms) m)
 
 -- ------------------------------------------------------------------ the last list of dialects
 
@@ -141,11 +122,11 @@ last-more (y ∷ z ∷ xs) x = last-more (z ∷ xs) x
 
 names-last : (ms : List (Member ℕ)) (ns : List (Identifier ℕ)) → lastNames (ms ++ dialects ns ∷ []) ≡ ns
 unfolding lastNames concat
-names-last ms ns = rw (picked-more declaredDialects ms (dialects ns), last-more (picked declaredDialects ms) ns) (append-nil ns)
+names-last ms ns = rw (picked-one declaredDialects ms (dialects ns), last-more (picked declaredDialects ms) ns) (append-nil ns)
 
 names-before : (ms : List (Member ℕ)) (m : Member ℕ) → declaredDialects m ≡ none → lastNames (ms ++ m ∷ []) ≡ lastNames ms
 unfolding lastNames
-names-before ms m e = rw (picked-more declaredDialects ms m, e, append-nil (picked declaredDialects ms))
+names-before ms m e = rw (picked-one declaredDialects ms m, e, append-nil (picked declaredDialects ms))
 
 module _ (s : List ℕ) (listed : Bool) (last : Current) (ms : List (Member ℕ)) (t u : Current) (h : NamedIs s listed last (lastNames ms)) (l : LiesIn s 0 t) (i : IsToken t) where
   named-before : (m : Member ℕ) → declaredDialects m ≡ none → eqb (memberKind m) 24 ≡ false
@@ -233,21 +214,13 @@ names-none s a =
     let e = flat-none (nodesOf (nameBranch 24)) in
     record { counted = refl; stores = rw e (stores-none a); few = rw e (omega arith); short = rw e (omega arith) }
 
-not-yes : (b : Bool) → not b ≡ true → b ≡ false
-not-yes true e = sym e
-not-yes false e = refl
-
-not-no : (b : Bool) → not b ≡ false → b ≡ true
-not-no true e = refl
-not-no false e = sym e
-
 pub names-no : (s : List ℕ) (n : Noted) (a : Lent) → not (n .listed) ≡ true → (ns : List (Identifier ℕ)) → NamedIs s (n .listed) (n .last) ns → Names ns s a a 0
-names-no s n a e ns h = let y : NamedIs s false (n .last) ns = rw (not-yes (n .listed) e) at h in rw y (names-none s a)
+names-no s n a e ns h = let y : NamedIs s false (n .last) ns = rw (not-true (n .listed) e) at h in rw y (names-none s a)
 
 -- where there are some, the token behind `@dialects` is arrived at, and they are read there
 module _ (s : List ℕ) (n : Noted) (r : Arrived) (h : (next (stream s (n .last)) ≡ arrival s r) × Lies s (endIn (n .last)) r) (y : not (n .listed) ≡ false) (has : HasNames s n) where
   named-at : (ns : List (Identifier ℕ)) → NamedIs s (n .listed) (n .last) ns → NamedAt s (n .last) ns
-  named-at ns i = rw (not-no (n .listed) y) at i
+  named-at ns i = rw (not-false (n .listed) y) at i
 
   pub names-arrive : {c : Cause} {p : ℕ} → r ≡ A.Refused c p → ⊥
   names-arrive q =

@@ -7,10 +7,11 @@ use mathlib.Core.List.{List, [], _∷_}
 use lib.ListN.{length, getD, set}
 use Rattle.basics.specs.Basics.{isEmpty, picked}
 use Rattle.error.specs.Promise.{causeNumber}
-use Rattle.tree.specs.Records.{Branch, nodes}
+use Rattle.lexer.specs.Tokens as T
+use Rattle.tree.specs.Records.{Branch, nodes, width}
 use Rattle.tree.specs.Stored.{nameBranch, ruleBranch, tokenPrecBranch, tokenConflictBranch, literalBranch, namedNodeBranch}
 use Rattle.tree.specs.Syntax.{Identifier}
-use Rattle.notation.specs.Parser.{Answer, read, refused, Parser, eat, until}
+use Rattle.notation.specs.Parser.{read, refused, Parser, eat, until}
 use Rattle.notation.specs.Members.{TokenMember, LocalMember, SkipMember, ExternalMember, localFallback}
 use Rattle.notation.specs.Declarations.{parseTokenMember, parseLocalMember, parseExternalMember, parseSkipMember}
 use Rattle.tokens.specs.Promise.{stream, LiesIn}
@@ -24,7 +25,7 @@ use Rattle.parser.specs.declared.props.Parsed.the-variants as P
 use Rattle.parser.specs.declared.props.Listed.{Listed}
 use Rattle.parser.specs.declared.props.Listed.the-variants as L
 use Rattle.reader.specs.Groups.{chosen, allOf, Gathers}
-use Rattle.reader.specs.Places.{placeIn, Fills}
+use Rattle.reader.specs.Places.{placeIn, groupAt, Fills}
 use Rattle.reader.specs.declared.blocks.Block.{Block}
 use Rattle.reader.specs.declared.blocks.Block.the-variants.{Tokens, LocalTokens, ExternalTokens, Specializer, Skip}
 use Rattle.reader.specs.declared.blocks.Joined.{Joined}
@@ -164,3 +165,11 @@ pub record Spreads (b : Block) (s : List ℕ) (t : Current) (ps qs ps₁ qs₁ w
 abbrev pub SpreadsTo : (b : Block) → List ℕ → Current → (ps qs ps₁ qs₁ ws ts vs us : List ℕ) → Listed → Type 0
 SpreadsTo b s t ps qs ps₁ qs₁ ws ts vs us (L.Done u n x count) = Spreads b s t ps qs ps₁ qs₁ ws ts vs us u n x count
 SpreadsTo b s t ps qs ps₁ qs₁ ws ts vs us (L.Refused c p) = membersOf b (stream s t) ≡ refused (causeNumber c) p
+
+-- the first group of the members that are read takes so many words
+abbrev pub FirstIs : (b : Block) → List ℕ → Current → (size : ℕ) → Type 0
+FirstIs b s t n = (ms : List (MemberOf b)) (us : T.Tokens ℕ) → membersOf b (stream s t) ≡ read ms us → n ≡ width * length (flat nodes (groupAt (placeOf b) (branchesOf b) 0 ms))
+
+abbrev pub FirstTo : (b : Block) → List ℕ → Current → (sizes : List ℕ) → Listed → Type 0
+FirstTo b s t sizes (L.Done u n x count) = FirstIs b s t (getD sizes 0 0)
+FirstTo b s t sizes (L.Refused c p) = Unit {0}

@@ -11,7 +11,7 @@ use Rattle.characters.specs.Utf8.{encodeAll}
 use Rattle.lexer.specs.Tokens.{Tokens}
 use Rattle.tree.specs.Records.{Branch, Node, nodes}
 use Rattle.tree.specs.Stored.{declarationBranch, externalPropBranch, sourceBranch}
-use Rattle.tree.specs.Syntax.{Identifier, TokenDeclaration, LocalTokenDeclaration, PrecDeclaration, SpecializeKind, extend, specialize, Declaration, declarationKind}
+use Rattle.tree.specs.Syntax.{Identifier, TokenDeclaration, LocalTokenDeclaration, SpecializeKind, extend, specialize, Declaration, declarationKind}
 use Rattle.notation.specs.Parser.{Answer, read, refused, Parser, _>>=_, _>>_, pure, kind, nameIn, next, nothing, expectName, parseIdentifier}
 use Rattle.notation.specs.Members.{SkipMember, skipTopRule, Member, declaration, dialects, externalProp, detectDelim}
 use Rattle.notation.specs.Declarations.{names, isTop, seen, block, topBy, parseLocalTokens, parseExternalProp, parseSource, parseSkipMember}

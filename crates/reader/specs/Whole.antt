@@ -12,15 +12,15 @@ use Rattle.error.specs.Promise.{causeNumber}
 use Rattle.lexer.specs.Tokens.{Tokens}
 use Rattle.lexer.specs.Promise.{tokensAt}
 use Rattle.tree.specs.Records.{nodes, textsOf, width}
-use Rattle.tree.specs.Stored.{nameBranch, flag, grammarWords, grammarTexts}
+use Rattle.tree.specs.Stored.{nameBranch, grammarWords, grammarTexts}
 use Rattle.tree.specs.Syntax.{Identifier, GrammarDeclaration}
-use Rattle.notation.specs.Parser.{Answer, read, refused, Parser, _>>=_, pure, kind, isEnd, until, nothing, arrive}
-use Rattle.notation.specs.Members.{Member, dialects, declared, declaredDialects, detects}
+use Rattle.notation.specs.Parser.{read, refused, Parser, _>>=_, pure, kind, isEnd, until, nothing, arrive}
+use Rattle.notation.specs.Members.{Member, declared, declaredDialects, detects}
 use Rattle.notation.specs.Declarations.{names, hasTop, parseDeclaration, parseGrammar, grammarOf}
 use Rattle.tokens.specs.Promise.{stream, startIn, LiesIn}
 use Rattle.parser.specs.Shapes.{IsToken}
 use Rattle.parser.specs.Storing.{Lent, lent, Stores, flat, nodesOf}
-use Rattle.parser.specs.Steps.{placed, Onward, Lays}
+use Rattle.parser.specs.Steps.{Onward, Lays}
 use Rattle.tokens.specs.declared.Current.{Current}
 use Rattle.parser.specs.declared.props.Listed.{Listed}
 use Rattle.parser.specs.declared.props.Listed.the-variants as L

@@ -19,7 +19,7 @@ ghost use Rattle.parser.specs.Steps.{Ready, betweenBy};
 ghost use Rattle.notation.specs.Declarations.{block as blockD};
 ghost use Rattle.reader.specs.Groups.{groupsOf, GathersTo};
 ghost use Rattle.reader.specs.Places.{placeIn, sum, linedUp, Blank, Begins};
-ghost use Rattle.reader.specs.Blocks.{kindOf, branchesOf, kindsOf, commaOf, memberOf, membersOf, JoinsTo, blockCount, SettlesTo, SpreadsTo, Roomy, oneOf};
+ghost use Rattle.reader.specs.Blocks.{kindOf, branchesOf, kindsOf, commaOf, memberOf, membersOf, JoinsTo, blockCount, SettlesTo, SpreadsTo, FirstTo, Roomy, oneOf};
 ghost use Rattle.reader.specs.Ahead.{memberAhead};
 ghost use Rattle.reader.specs.declared.blocks.Block.the-variants.{Tokens, LocalTokens, ExternalTokens, Skip};
 
@@ -278,7 +278,7 @@ fn member_placed(
 }
 
 // The members of a block up to its brace, each stored where its group goes on, and how much they take.
-pub fn members_pass(
+fn members_pass(
     source: &[u8],
     block: Block,
     token: Current,
@@ -347,8 +347,8 @@ pub fn line_up(sizes: &mut [usize], from: usize)
 }
 
 // The members of a block, with room for the sizes of its groups. A first pass, over nothing, measures each group; a second stores each member in its
-// group. Where nothing is lent the first is enough.
-fn parse_members(
+// group. Where nothing is lent the first is enough. The size of the first group is left in its place.
+pub fn parse_members(
     source: &[u8],
     block: Block,
     token: Current,
@@ -361,7 +361,8 @@ fn parse_members(
 ) -> Listed
     requires { ⌜ Roomy (now source) token n x × Blank blockCount (now words) × Blank blockCount (now bytes) ⌝ }
     ensures { λ r. ⌜ GathersTo (membersOf block (stream (now (source .entry)) token)) (groupsOf (kindOf block) (branchesOf block) (kindsOf block)) (now (source .entry)) token 1
-        (lent n (now (records .entry)) x (now (texts .entry))) (now (records .exit)) (now (texts .exit)) r ⌝ }
+        (lent n (now (records .entry)) x (now (texts .entry))) (now (records .exit)) (now (texts .exit)) r
+        × FirstTo block (now (source .entry)) token (now (words .exit)) r ⌝ }
 {
     match members_pass(
         source,
@@ -377,11 +378,15 @@ fn parse_members(
             if records.len() == 0 && texts.len() == 0 {
                 return Listed::Done(v, n + m, x + y, children);
             }
+            let first = words[0];
             line_up(words, n);
             line_up(bytes, x);
             match members_pass(source, block, token, words, bytes, records, texts) {
                 Listed::Refused(cause, at) => Listed::Refused(cause, at),
-                Listed::Done(_, _, _, _) => Listed::Done(v, n + m, x + y, children),
+                Listed::Done(_, _, _, _) => {
+                    words[0] = first;
+                    Listed::Done(v, n + m, x + y, children)
+                }
             }
         }
     }

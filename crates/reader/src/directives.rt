@@ -17,12 +17,12 @@ ghost use Prim.Native.Nat.{_≤_};
 ghost use lib.ListN.{length};
 ghost use Rattle.tree.specs.Stored.{declarationBranch, specializeValue};
 ghost use Rattle.notation.specs.Declarations.{parseTokens, parseExternalTokens, parseExternalSpecializer, parseSkipDeclaration, declares};
-ghost use Rattle.tokens.specs.Promise.{stream, startIn, LiesIn};
+ghost use Rattle.tokens.specs.Promise.{stream, startIn};
 ghost use Rattle.parser.specs.Storing.{lent, nodesOf};
 ghost use Rattle.parser.specs.Steps.{Parses};
 ghost use Rattle.parser.specs.Shapes.{IsToken};
 ghost use Rattle.reader.specs.Blocks.{Roomy};
-ghost use Rattle.reader.specs.Directives.{past, localAt, tokensBranch, localBranch, specializeBy, externalSet, setNodes, HoldsTop, Scopes, declaredOf, DeclaresTo};
+ghost use Rattle.reader.specs.Directives.{past, localAt, tokensBranch, localBranch, specializeBy, externalSet, setNodes, Scopes, declaredOf, DeclaresTo};
 
 // How many levels an expression in braces may have.
 const LEVELS: usize = 64;
@@ -251,31 +251,7 @@ pub fn parse_external_specializer(
     )
 }
 
-// Whether the members of a scoped skip, from its brace on, hold a top rule: a pass that stores nothing, and measures their group, the first.
-fn holds_top(source: &[u8], token: Current, records: &mut [u32], texts: &mut [u8]) -> bool
-    requires { ⌜ LiesIn (now source) 0 token × (length (now source) ≤ 0x10000) ⌝ }
-    ensures { λ r. ⌜ HoldsTop (now (source .entry)) token r × (now (records .exit) ≡ now (records .entry)) × (now (texts .exit) ≡ now (texts .entry)) ⌝ }
-{
-    let Arrived::At(u) = tokens::expect_punctuation(source, token, 0x7B) else {
-        return false;
-    };
-    let mut words = [0usize; 4];
-    let mut bytes = [0usize; 4];
-    let Listed::Done(_, _, _, _) = blocks::members_pass(
-        source,
-        Block::Skip,
-        u,
-        &mut words,
-        &mut bytes,
-        &mut records[..0],
-        &mut texts[..0],
-    ) else {
-        return false;
-    };
-    words[0] != 0
-}
-
-// The members of a scoped skip, at its brace, behind its expression.
+// The members of a scoped skip, at its brace, behind its expression. Top rules are the first group: there is one if that has a size.
 fn parse_scoped(
     source: &[u8],
     token: Current,
@@ -289,13 +265,28 @@ fn parse_scoped(
     ensures { λ r. ⌜ Scopes start (now (source .entry)) token
         (lent n (now (records .entry)) x (now (texts .entry))) (now (records .exit)) (now (texts .exit)) r ⌝ }
 {
-    let top = holds_top(source, token, records, texts);
-    let listed = blocks::parse_block(source, Block::Skip, token, records, n, texts, x);
+    let opened = tokens::expect_punctuation(source, token, 0x7B);
+    let Arrived::At(u) = opened else {
+        return Declared::Refused(opened.cause(), opened.place());
+    };
+    let mut words = [0usize; 4];
+    let mut bytes = [0usize; 4];
+    let listed = blocks::parse_members(
+        source,
+        Block::Skip,
+        u,
+        &mut words,
+        &mut bytes,
+        records,
+        n,
+        texts,
+        x,
+    );
     let Listed::Done(v, m, y, count) = listed else {
         return Declared::Refused(listed.cause(), listed.place());
     };
     let k = store::put_plain(records, m, 23, start, 0, 1 + count);
-    Declared::Done(v, k, y, 23, top)
+    Declared::Done(v, k, y, 23, words[0] != 0)
 }
 
 // `@skip`, at its keyword: a second main one is refused once the token behind its braces is read.

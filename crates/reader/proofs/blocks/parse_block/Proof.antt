@@ -51,7 +51,7 @@ returns-2 c =
     let c12 = c6 .before .before .before .before .before .before in
     let c14 = c12 .before .before in
     let c18 = c14 .before .before .before .before in
-    block-gathered (c18 .args .block) _ _ (c18 .pre .lies) _ (c14 .expect-punctuation .ensures) (c12 .u .given .1) _ _ _ _ _ _ (c6 .parse-members .result) (c6 .parse-members .ensures)
+    block-gathered (c18 .args .block) _ _ (c18 .pre .lies) _ (c14 .expect-punctuation .ensures) (c12 .u .given .1) _ _ _ _ _ _ (c6 .parse-members .result) (c6 .parse-members .ensures .0)
 
 pub parse-block-spec : {M : Type 1} → statement M
 parse-block-spec =

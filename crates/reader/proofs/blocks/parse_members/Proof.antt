@@ -2,9 +2,9 @@
 -- Assumes nothing.
 use native.Mathlib.Omega.{arith}
 use mathlib.Core.Path.{refl, ap, sym, _∙_}
-use lib.ListN.{length}
+use lib.ListN.{length, length-set}
 use Rattle.reader.proofs.BlockGathered.{is-zero}
-use Rattle.reader.proofs.BlockFilled.{spread-at, spread-not, before-words, before-texts, blank-begins, spread-small, words-small, bytes-small, spread-none, lined-begins, spread-over}
+use Rattle.reader.proofs.BlockFilled.{spread-at, spread-not, before-words, before-texts, blank-begins, spread-small, words-small, bytes-small, all-words, first-size, spread-none, lined-begins, all-after, first-kept, spread-over}
 use borrow.Author.Needs.{needs}
 use Rattle.reader.proofs.blocks.parse_members.Statement.{statement}
 use Rattle.reader.proofs.blocks.parse_members.Tie as tie
@@ -32,15 +32,15 @@ enum-known-cause c = search needs
 enum-known-v : tie.Need-enum-known-v
 enum-known-v c = search needs
 
-add-t32 : tie.Need-add-t32
-add-t32 c =
+add-t33 : tie.Need-add-t33
+add-t33 c =
     let c3 = c .before .before .before in
     let c13 = c3 .before .before .before .before .before .before .before .before .before .before in
     let c23 = c13 .before .before .before .before .before .before .before .before .before .before in
     let k = spread-small (c23 .pre .0) (c23 .pre .1) (c23 .pre .2) (spread-at _ _ _ _ _ _ _ _ _ _ _ (c13 .members-pass .result) (c13 .members-pass .ensures) (c3 .v .given .1)) .0 in omega arith
 
-add-t33 : tie.Need-add-t33
-add-t33 c =
+add-t34 : tie.Need-add-t34
+add-t34 c =
     let c3 = c .before .before .before in
     let c13 = c3 .before .before .before .before .before .before .before .before .before .before in
     let c23 = c13 .before .before .before .before .before .before .before .before .before .before in
@@ -63,30 +63,37 @@ returns c =
     let c3 = c .before .before .before in
     let c13 = c3 .before .before .before .before .before .before .before .before .before .before in
     let c23 = c13 .before .before .before .before .before .before .before .before .before .before in
-    let j = (spread-at _ _ _ _ _ _ _ _ _ _ _ (c13 .members-pass .result) (c13 .members-pass .ensures) (c3 .v .given .1)) in let v = before-words j refl (c23 .args .records .now) in let w = before-texts j refl (c23 .args .texts .now) in spread-none (c23 .pre .0) (c23 .pre .1) (c23 .pre .2) j (sym (ap length v) ∙ c .before .if1 .taken) (sym (ap length w) ∙ is-zero _ (c .if2 .taken)) (c .before .if1 .taken) (is-zero _ (c .if2 .taken))
+    let j = (spread-at _ _ _ _ _ _ _ _ _ _ _ (c13 .members-pass .result) (c13 .members-pass .ensures) (c3 .v .given .1)) in let v = before-words j refl (c23 .args .records .now) in let w = before-texts j refl (c23 .args .texts .now) in (spread-none (c23 .pre .0) (c23 .pre .1) (c23 .pre .2) j (sym (ap length v) ∙ c .before .if1 .taken) (sym (ap length w) ∙ is-zero _ (c .if2 .taken)) (c .before .if1 .taken) (is-zero _ (c .if2 .taken)), first-size (c23 .pre .0) (c23 .pre .1) (c23 .pre .2) j)
 
-line-up-requires : tie.Need-line-up-requires
-line-up-requires c κs =
+slice-read-first : tie.Need-slice-read-first
+slice-read-first c =
     let c3 = c .before .before .before in
     let c13 = c3 .before .before .before .before .before .before .before .before .before .before in
     let c23 = c13 .before .before .before .before .before .before .before .before .before .before in
-    words-small (c23 .pre .0) (c23 .pre .1) (c23 .pre .2) (spread-at _ _ _ _ _ _ _ _ _ _ _ (c13 .members-pass .result) (c13 .members-pass .ensures) (c3 .v .given .1))
+    let k = all-words (c23 .pre .0) (c23 .pre .1) (c23 .pre .2) (spread-at _ _ _ _ _ _ _ _ _ _ _ (c13 .members-pass .result) (c13 .members-pass .ensures) (c3 .v .given .1)) in omega arith
+
+line-up-requires : tie.Need-line-up-requires
+line-up-requires c κs =
+    let c4 = c .before .before .before .before in
+    let c14 = c4 .before .before .before .before .before .before .before .before .before .before in
+    let c24 = c14 .before .before .before .before .before .before .before .before .before .before in
+    words-small (c24 .pre .0) (c24 .pre .1) (c24 .pre .2) (spread-at _ _ _ _ _ _ _ _ _ _ _ (c14 .members-pass .result) (c14 .members-pass .ensures) (c4 .v .given .1))
 
 line-up-requires-2 : tie.Need-line-up-requires-2
 line-up-requires-2 c κs =
-    let c7 = c .before .before .before .before .before .before .before in
-    let c17 = c7 .before .before .before .before .before .before .before .before .before .before in
-    let c27 = c17 .before .before .before .before .before .before .before .before .before .before in
-    bytes-small (c27 .pre .0) (c27 .pre .1) (c27 .pre .2) (spread-at _ _ _ _ _ _ _ _ _ _ _ (c17 .members-pass .result) (c17 .members-pass .ensures) (c7 .v .given .1))
+    let c8 = c .before .before .before .before .before .before .before .before in
+    let c18 = c8 .before .before .before .before .before .before .before .before .before .before in
+    let c28 = c18 .before .before .before .before .before .before .before .before .before .before in
+    bytes-small (c28 .pre .0) (c28 .pre .1) (c28 .pre .2) (spread-at _ _ _ _ _ _ _ _ _ _ _ (c18 .members-pass .result) (c18 .members-pass .ensures) (c8 .v .given .1))
 
 members-pass-requires-2 : tie.Need-members-pass-requires-2
 members-pass-requires-2 c κs =
     let c6 = c .before .before .before .before .before .before in
     let c10 = c6 .before .before .before .before in
-    let c14 = c10 .before .before .before .before in
-    let c24 = c14 .before .before .before .before .before .before .before .before .before .before in
-    let c34 = c24 .before .before .before .before .before .before .before .before .before .before in
-    lined-begins (c34 .pre .0) (c34 .pre .1) (c34 .pre .2) (spread-at _ _ _ _ _ _ _ _ _ _ _ (c24 .members-pass .result) (c24 .members-pass .ensures) (c14 .v .given .1)) (c10 .line-up .ensures) (c6 .line-up2 .ensures)
+    let c15 = c10 .before .before .before .before .before in
+    let c25 = c15 .before .before .before .before .before .before .before .before .before .before in
+    let c35 = c25 .before .before .before .before .before .before .before .before .before .before in
+    lined-begins (c35 .pre .0) (c35 .pre .1) (c35 .pre .2) (spread-at _ _ _ _ _ _ _ _ _ _ _ (c25 .members-pass .result) (c25 .members-pass .ensures) (c15 .v .given .1)) (c10 .line-up .ensures) (c6 .line-up2 .ensures)
 
 enum-known-cause-2 : tie.Need-enum-known-cause-2
 enum-known-cause-2 c = search needs
@@ -94,19 +101,29 @@ enum-known-cause-2 c = search needs
 enum-told : tie.Need-enum-told
 enum-told c = search needs
 
-add-t49 : tie.Need-add-t49
-add-t49 c =
-    let c25 = c .before .before .before .before .before .before .before .before .before .before .before .before .before .before .before .before .before .before .before .before .before .before .before .before .before in
-    let c35 = c25 .before .before .before .before .before .before .before .before .before .before in
-    let c45 = c35 .before .before .before .before .before .before .before .before .before .before in
-    let k = spread-small (c45 .pre .0) (c45 .pre .1) (c45 .pre .2) (spread-at _ _ _ _ _ _ _ _ _ _ _ (c35 .members-pass .result) (c35 .members-pass .ensures) (c25 .v .given .1)) .0 in omega arith
+slice-write-words : tie.Need-slice-write-words
+slice-write-words c =
+    let c10 = c .before .before .before .before .before .before .before .before .before .before in
+    let c17 = c10 .before .before .before .before .before .before .before in
+    let c21 = c17 .before .before .before .before in
+    let c26 = c21 .before .before .before .before .before in
+    let c36 = c26 .before .before .before .before .before .before .before .before .before .before in
+    let c46 = c36 .before .before .before .before .before .before .before .before .before .before in
+    let k = all-after (c46 .pre .0) (c46 .pre .1) (c46 .pre .2) (spread-at _ _ _ _ _ _ _ _ _ _ _ (c36 .members-pass .result) (c36 .members-pass .ensures) (c26 .v .given .1)) (c21 .line-up .ensures) (c17 .line-up2 .ensures) (spread-at _ _ _ _ _ _ _ _ _ _ _ (c10 .members-pass2 .result) (c10 .members-pass2 .ensures) (c .enum-told .given .1)) in omega arith
 
-add-t50 : tie.Need-add-t50
-add-t50 c =
-    let c25 = c .before .before .before .before .before .before .before .before .before .before .before .before .before .before .before .before .before .before .before .before .before .before .before .before .before in
-    let c35 = c25 .before .before .before .before .before .before .before .before .before .before in
-    let c45 = c35 .before .before .before .before .before .before .before .before .before .before in
-    let k = spread-small (c45 .pre .0) (c45 .pre .1) (c45 .pre .2) (spread-at _ _ _ _ _ _ _ _ _ _ _ (c35 .members-pass .result) (c35 .members-pass .ensures) (c25 .v .given .1)) .1 in omega arith
+add-t52 : tie.Need-add-t52
+add-t52 c =
+    let c26 = c .before .before .before .before .before .before .before .before .before .before .before .before .before .before .before .before .before .before .before .before .before .before .before .before .before .before in
+    let c36 = c26 .before .before .before .before .before .before .before .before .before .before in
+    let c46 = c36 .before .before .before .before .before .before .before .before .before .before in
+    let k = spread-small (c46 .pre .0) (c46 .pre .1) (c46 .pre .2) (spread-at _ _ _ _ _ _ _ _ _ _ _ (c36 .members-pass .result) (c36 .members-pass .ensures) (c26 .v .given .1)) .0 in omega arith
+
+add-t53 : tie.Need-add-t53
+add-t53 c =
+    let c26 = c .before .before .before .before .before .before .before .before .before .before .before .before .before .before .before .before .before .before .before .before .before .before .before .before .before .before in
+    let c36 = c26 .before .before .before .before .before .before .before .before .before .before in
+    let c46 = c36 .before .before .before .before .before .before .before .before .before .before in
+    let k = spread-small (c46 .pre .0) (c46 .pre .1) (c46 .pre .2) (spread-at _ _ _ _ _ _ _ _ _ _ _ (c36 .members-pass .result) (c36 .members-pass .ensures) (c26 .v .given .1)) .1 in omega arith
 
 same-length-5 : tie.Need-same-length-5
 same-length-5 c = search needs
@@ -123,10 +140,14 @@ same-length-8 c = search needs
 returns-2 : tie.Need-returns-2
 returns-2 c =
     let c11 = c .before .before .before .before .before .before .before .before .before .before .before in
-    spread-not _ _ _ _ _ _ _ _ _ _ _ (c11 .members-pass .result) (c11 .members-pass .ensures) (c .before .cause .given .1)
+    (spread-not _ _ _ _ _ _ _ _ _ _ _ (c11 .members-pass .result) (c11 .members-pass .ensures) (c .before .cause .given .1), tt)
 
 same-length-9 : tie.Need-same-length-9
-same-length-9 c = search needs
+same-length-9 c =
+    let c10 = c .before .before .before .before .before .before .before .before .before .before in
+    let c21 = c10 .before .before .before .before .before .before .before .before .before .before .before in
+    let c36 = c21 .before .before .before .before .before .before .before .before .before .before .before .before .before .before .before in
+    omega (arith, c36 .words .given, c21 .words2 .given, c10 .words3 .given)
 
 same-length-10 : tie.Need-same-length-10
 same-length-10 c = search needs
@@ -140,10 +161,14 @@ same-length-12 c = search needs
 returns-3 : tie.Need-returns-3
 returns-3 c =
     let c11 = c .before .before .before .before .before .before .before .before .before .before .before in
-    spread-not _ _ _ _ _ _ _ _ _ _ _ (c11 .members-pass2 .result) (c11 .members-pass2 .ensures) (c .before .cause2 .given .1)
+    (spread-not _ _ _ _ _ _ _ _ _ _ _ (c11 .members-pass2 .result) (c11 .members-pass2 .ensures) (c .before .cause2 .given .1), tt)
 
 same-length-13 : tie.Need-same-length-13
-same-length-13 c = search needs
+same-length-13 c =
+    let c9 = c .before .before .before .before .before .before .before .before .before in
+    let c20 = c9 .before .before .before .before .before .before .before .before .before .before .before in
+    let c35 = c20 .before .before .before .before .before .before .before .before .before .before .before .before .before .before .before in
+    simp length-set (omega (arith, c35 .words .given, c20 .words2 .given, c9 .words3 .given))
 
 same-length-14 : tie.Need-same-length-14
 same-length-14 c = search needs
@@ -159,10 +184,10 @@ returns-4 c =
     let c10 = c .before .before .before .before .before .before .before .before .before .before in
     let c17 = c10 .before .before .before .before .before .before .before in
     let c21 = c17 .before .before .before .before in
-    let c25 = c21 .before .before .before .before in
-    let c35 = c25 .before .before .before .before .before .before .before .before .before .before in
-    let c45 = c35 .before .before .before .before .before .before .before .before .before .before in
-    let j = (spread-at _ _ _ _ _ _ _ _ _ _ _ (c35 .members-pass .result) (c35 .members-pass .ensures) (c25 .v .given .1)) in spread-over (c45 .pre .0) (c45 .pre .1) (c45 .pre .2) j (c21 .line-up .ensures) (c17 .line-up2 .ensures) (spread-at _ _ _ _ _ _ _ _ _ _ _ (c10 .members-pass2 .result) (c10 .members-pass2 .ensures) (c .enum-told .given .1)) (before-words j refl (c45 .args .records .now)) (before-texts j refl (c45 .args .texts .now))
+    let c26 = c21 .before .before .before .before .before in
+    let c36 = c26 .before .before .before .before .before .before .before .before .before .before in
+    let c46 = c36 .before .before .before .before .before .before .before .before .before .before in
+    let j = (spread-at _ _ _ _ _ _ _ _ _ _ _ (c36 .members-pass .result) (c36 .members-pass .ensures) (c26 .v .given .1)) in let k = (spread-at _ _ _ _ _ _ _ _ _ _ _ (c10 .members-pass2 .result) (c10 .members-pass2 .ensures) (c .enum-told .given .1)) in (spread-over (c46 .pre .0) (c46 .pre .1) (c46 .pre .2) j (c21 .line-up .ensures) (c17 .line-up2 .ensures) k (before-words j refl (c46 .args .records .now)) (before-texts j refl (c46 .args .texts .now)), first-kept (c46 .pre .0) (c46 .pre .1) (c46 .pre .2) j (c21 .line-up .ensures) (c17 .line-up2 .ensures) k)
 
 pub parse-members-spec : {M : Type 1} → statement M
 parse-members-spec =
@@ -175,20 +200,22 @@ parse-members-spec =
     members-pass-requires
     enum-known-cause
     enum-known-v
-    add-t32
     add-t33
+    add-t34
     same-length
     same-length-2
     same-length-3
     same-length-4
     returns
+    slice-read-first
     line-up-requires
     line-up-requires-2
     members-pass-requires-2
     enum-known-cause-2
     enum-told
-    add-t49
-    add-t50
+    slice-write-words
+    add-t52
+    add-t53
     same-length-5
     same-length-6
     same-length-7

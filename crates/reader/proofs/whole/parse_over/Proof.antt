@@ -3,8 +3,8 @@
 use native.Mathlib.Omega.{arith}
 use mathlib.Core.Path.{refl, ap, _∙_}
 use lib.ListN.{length}
+use Rattle.basics.proofs.Lists.{front-none}
 use Rattle.reader.proofs.MemberLaws.{no-words, no-texts}
-use Rattle.reader.proofs.BlockGathered.{front-none}
 use Rattle.reader.proofs.ParseLaws.{passed-at, passed-not, first-begins, no-words-yet, no-texts-yet, stopped-members, stopped-top, measured-names, measured-small, named-done, named-always, measured-fits, stopped-words, stopped-bytes, all-known, reads-same}
 use borrow.Author.Needs.{needs}
 use Rattle.reader.proofs.whole.parse_over.Statement.{statement}
