@@ -24,3 +24,4 @@ pub mod BlockFilled
 pub mod WholeFilled
 pub mod ParseLaws
 pub mod StoreLaws
+pub mod Told

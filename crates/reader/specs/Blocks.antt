@@ -5,6 +5,8 @@ use mathlib.Core.Path.{_≡_}
 use mathlib.Core.Bool.{Bool, true, false}
 use mathlib.Core.List.{List, [], _∷_}
 use lib.ListN.{length, getD, set}
+use Rattle.error.specs.declared.Cause.{Cause}
+use Rattle.error.specs.declared.Cause.the-variants.{UnexpectedToken}
 use Rattle.basics.specs.Basics.{isEmpty, picked}
 use Rattle.error.specs.Promise.{causeNumber}
 use Rattle.lexer.specs.Tokens as T
@@ -110,6 +112,16 @@ Free LocalTokens ms f = isEmpty (picked localFallback ms) ≡ f
 Free ExternalTokens ms f = Unit {0}
 Free Specializer ms f = Unit {0}
 Free Skip ms f = Unit {0}
+
+-- the cause that a refusal says
+abbrev pub joinedCause : Joined → Cause
+joinedCause (Refused c p) = c
+joinedCause (Done u n x k kind) = UnexpectedToken
+
+-- its place
+abbrev pub joinedPlace : Joined → ℕ
+joinedPlace (Refused c p) = p
+joinedPlace (Done u n x k kind) = 0
 
 -- what was read is one member of a kind
 abbrev pub oneOf : (kind : ℕ) → Parsed → Joined

@@ -5,6 +5,8 @@ use mathlib.Core.Path.{_≡_}
 use mathlib.Core.Bool.{Bool, true, false, not}
 use mathlib.Core.List.{List, [], _∷_, _++_}
 use lib.ListN.{length}
+use Rattle.error.specs.declared.Cause.{Cause}
+use Rattle.error.specs.declared.Cause.the-variants.{UnexpectedToken}
 use Rattle.basics.specs.Basics.{isEmpty, picked}
 use Rattle.error.specs.Promise.{causeNumber}
 use Rattle.characters.specs.Utf8.{encodeAll}
@@ -118,6 +120,16 @@ pub record Declares (D : List (Member ℕ) → Answer ℕ (Member ℕ)) (k : See
   pub tops : memberTop value ≡ top
   pub named : (ns : List (Identifier ℕ)) → value ≡ dialects ns → past names (stream s t) ≡ read ns (stream s u)
   pub lays : Lays s t u 0 (flat nodes (memberBranches value)) a b
+
+-- the cause that a refusal says
+abbrev pub declaredCause : Declared → Cause
+declaredCause (Refused c p) = c
+declaredCause (Done u n x kind top) = UnexpectedToken
+
+-- its place
+abbrev pub declaredPlace : Declared → ℕ
+declaredPlace (Refused c p) = p
+declaredPlace (Done u n x kind top) = 0
 
 abbrev pub DeclaresTo : (List (Member ℕ) → Answer ℕ (Member ℕ)) → Seen → List ℕ → Current → Lent → (words texts : List ℕ) → Declared → Type 0
 DeclaresTo D k s t a ws ts (Done u n x kind top) = Declares D k s t a u (lent n ws x ts) kind top

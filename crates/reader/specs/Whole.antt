@@ -6,6 +6,8 @@ use mathlib.Core.Bool.{Bool, true, false, not, _||_}
 use mathlib.Core.List.{List, [], _∷_, _++_}
 use lib.Dec.{eqb}
 use lib.ListN.{length, drop, getD, set}
+use Rattle.error.specs.declared.Cause.{Cause}
+use Rattle.error.specs.declared.Cause.the-variants.{UnexpectedToken}
 use Rattle.basics.specs.Basics.{if_then_else_, isEmpty, picked, concat, lastOf}
 use Rattle.error.specs.Causes.{recordsFull, textsFull}
 use Rattle.error.specs.Promise.{causeNumber}
@@ -124,6 +126,16 @@ pub record Passes (s : List ℕ) (t : Current) (ps qs ps₁ qs₁ ws ts vs us : 
   pub lays : Lays s t u 0 (flat nodes (allOf memberKind memberBranches 0 found)) (lent 0 [] 0 []) (lent words [] bytes [])
   pub noted : NotedIs s n found
   pub fills : Fills memberPlace memberBranches groupCount found ps qs ps₁ qs₁ ws ts vs us
+
+-- the cause that a refusal says
+abbrev pub passedCause : Passed → Cause
+passedCause (P.Refused c p) = c
+passedCause (P.Done u n x count noted) = UnexpectedToken
+
+-- its place
+abbrev pub passedPlace : Passed → ℕ
+passedPlace (P.Refused c p) = p
+passedPlace (P.Done u n x count noted) = 0
 
 abbrev pub PassesTo : List ℕ → Current → (ps qs ps₁ qs₁ ws ts vs us : List ℕ) → Passed → Type 0
 PassesTo s t ps qs ps₁ qs₁ ws ts vs us (P.Done u n x count noted) = Passes s t ps qs ps₁ qs₁ ws ts vs us u n x count noted

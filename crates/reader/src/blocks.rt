@@ -19,7 +19,7 @@ ghost use Rattle.parser.specs.Steps.{Ready, betweenBy};
 ghost use Rattle.notation.specs.Declarations.{block as blockD};
 ghost use Rattle.reader.specs.Groups.{groupsOf, GathersTo};
 ghost use Rattle.reader.specs.Places.{placeIn, sum, linedUp, Blank, Begins};
-ghost use Rattle.reader.specs.Blocks.{kindOf, branchesOf, kindsOf, commaOf, memberOf, membersOf, JoinsTo, blockCount, SettlesTo, SpreadsTo, FirstTo, Roomy, oneOf};
+ghost use Rattle.reader.specs.Blocks.{joinedCause, joinedPlace, kindOf, branchesOf, kindsOf, commaOf, memberOf, membersOf, JoinsTo, blockCount, SettlesTo, SpreadsTo, FirstTo, Roomy, oneOf};
 ghost use Rattle.reader.specs.Ahead.{memberAhead};
 ghost use Rattle.reader.specs.declared.blocks.Block.the-variants.{Tokens, LocalTokens, ExternalTokens, Skip};
 
@@ -36,6 +36,27 @@ pub enum Block {
 pub enum Joined {
     Done(Current, usize, usize, usize, u32),
     Refused(Cause, usize),
+}
+
+// What a refusal says: its cause, and its place.
+impl Joined {
+    pub fn cause(self) -> Cause
+        ensures { λ r. ⌜ r ≡ joinedCause self ⌝ }
+    {
+        match self {
+            Joined::Done(_, _, _, _, _) => Cause::UnexpectedToken,
+            Joined::Refused(cause, _) => cause,
+        }
+    }
+
+    pub fn place(self) -> usize
+        ensures { λ r. ⌜ r ≡ joinedPlace self ⌝ }
+    {
+        match self {
+            Joined::Done(_, _, _, _, _) => 0,
+            Joined::Refused(_, at) => at,
+        }
+    }
 }
 
 // What was read is one member of a kind.
@@ -136,10 +157,13 @@ fn external_member(
             rules::parse_named_node(source, token, records, n, texts, x),
             13,
         ),
-        Eaten::Yes(u) => match rules::parse_names(source, u, 17, records, n, texts, x) {
-            Listed::Refused(cause, at) => Joined::Refused(cause, at),
-            Listed::Done(v, m, y, count) => Joined::Done(v, m, y, count, 17),
-        },
+        Eaten::Yes(u) => {
+            let named = rules::parse_names(source, u, 17, records, n, texts, x);
+            let Listed::Done(v, m, y, count) = named else {
+                return Joined::Refused(named.cause(), named.place());
+            };
+            Joined::Done(v, m, y, count, 17)
+        }
     }
 }
 
@@ -267,14 +291,13 @@ fn member_placed(
     let p = group_ahead(source, block, token, free);
     let n = words[p];
     let x = bytes[p];
-    match member(source, block, token, free, records, n, texts, x) {
-        Joined::Refused(cause, at) => Joined::Refused(cause, at),
-        Joined::Done(u, m, y, count, kind) => {
-            words[p] = m;
-            bytes[p] = y;
-            Joined::Done(u, m - n, y - x, count, kind)
-        }
-    }
+    let joined = member(source, block, token, free, records, n, texts, x);
+    let Joined::Done(u, m, y, count, kind) = joined else {
+        return joined;
+    };
+    words[p] = m;
+    bytes[p] = y;
+    Joined::Done(u, m - n, y - x, count, kind)
 }
 
 // The members of a block up to its brace, each stored where its group goes on, and how much they take.
@@ -305,28 +328,18 @@ fn members_pass(
             Opened::Refused(cause, at) => {
                 return Listed::Refused(cause, at);
             }
-            Opened::Item(u) => match member_placed(
-                source,
-                block,
-                u,
-                free,
-                words,
-                bytes,
-                records,
-                texts,
-            ) {
-                Joined::Refused(cause, at) => {
-                    return Listed::Refused(cause, at);
-                }
-                Joined::Done(v, k, z, more, kind) => {
-                    t = v;
-                    m += k;
-                    y += z;
-                    count += 1;
-                    children += more;
-                    free = free && kind != 13;
-                }
-            },
+            Opened::Item(u) => {
+                let joined = member_placed(source, block, u, free, words, bytes, records, texts);
+                let Joined::Done(v, k, z, more, kind) = joined else {
+                    return Listed::Refused(joined.cause(), joined.place());
+                };
+                t = v;
+                m += k;
+                y += z;
+                count += 1;
+                children += more;
+                free = free && kind != 13;
+            }
         }
     }
 }
@@ -364,7 +377,7 @@ pub fn parse_members(
         (lent n (now (records .entry)) x (now (texts .entry))) (now (records .exit)) (now (texts .exit)) r
         × FirstTo block (now (source .entry)) token (now (words .exit)) r ⌝ }
 {
-    match members_pass(
+    let measured = members_pass(
         source,
         block,
         token,
@@ -372,24 +385,22 @@ pub fn parse_members(
         bytes,
         &mut records[..0],
         &mut texts[..0],
-    ) {
-        Listed::Refused(cause, at) => Listed::Refused(cause, at),
-        Listed::Done(v, m, y, children) => {
-            if records.len() == 0 && texts.len() == 0 {
-                return Listed::Done(v, n + m, x + y, children);
-            }
-            let first = words[0];
-            line_up(words, n);
-            line_up(bytes, x);
-            match members_pass(source, block, token, words, bytes, records, texts) {
-                Listed::Refused(cause, at) => Listed::Refused(cause, at),
-                Listed::Done(_, _, _, _) => {
-                    words[0] = first;
-                    Listed::Done(v, n + m, x + y, children)
-                }
-            }
-        }
+    );
+    let Listed::Done(v, m, y, children) = measured else {
+        return measured;
+    };
+    if records.len() == 0 && texts.len() == 0 {
+        return Listed::Done(v, n + m, x + y, children);
     }
+    let first = words[0];
+    line_up(words, n);
+    line_up(bytes, x);
+    let stored = members_pass(source, block, token, words, bytes, records, texts);
+    let Listed::Done(_, _, _, _) = stored else {
+        return stored;
+    };
+    words[0] = first;
+    Listed::Done(v, n + m, x + y, children)
 }
 
 // A block in braces.
@@ -406,22 +417,21 @@ pub fn parse_block(
     ensures { λ r. ⌜ GathersTo (blockD (betweenBy (commaOf block)) (memberOf block) (stream (now (source .entry)) token)) (groupsOf (kindOf block) (branchesOf block) (kindsOf block)) (now (source .entry)) token 2
         (lent n (now (records .entry)) x (now (texts .entry))) (now (records .exit)) (now (texts .exit)) r ⌝ }
 {
-    match tokens::expect_punctuation(source, token, 0x7B) {
-        Arrived::Refused(cause, at) => Listed::Refused(cause, at),
-        Arrived::At(u) => {
-            let mut words = [0usize; 4];
-            let mut bytes = [0usize; 4];
-            parse_members(
-                source,
-                block,
-                u,
-                &mut words,
-                &mut bytes,
-                records,
-                n,
-                texts,
-                x,
-            )
-        }
-    }
+    let opened = tokens::expect_punctuation(source, token, 0x7B);
+    let Arrived::At(u) = opened else {
+        return Listed::Refused(opened.cause(), opened.place());
+    };
+    let mut words = [0usize; 4];
+    let mut bytes = [0usize; 4];
+    parse_members(
+        source,
+        block,
+        u,
+        &mut words,
+        &mut bytes,
+        records,
+        n,
+        texts,
+        x,
+    )
 }

@@ -22,7 +22,7 @@ ghost use Rattle.parser.specs.Storing.{lent, nodesOf};
 ghost use Rattle.parser.specs.Steps.{Parses};
 ghost use Rattle.parser.specs.Shapes.{IsToken};
 ghost use Rattle.reader.specs.Blocks.{Roomy};
-ghost use Rattle.reader.specs.Directives.{past, localAt, tokensBranch, localBranch, specializeBy, externalSet, setNodes, Scopes, declaredOf, DeclaresTo};
+ghost use Rattle.reader.specs.Directives.{declaredCause, declaredPlace, past, localAt, tokensBranch, localBranch, specializeBy, externalSet, setNodes, Scopes, declaredOf, DeclaresTo};
 
 // How many levels an expression in braces may have.
 const LEVELS: usize = 64;
@@ -39,6 +39,27 @@ pub struct Seen {
 pub enum Declared {
     Done(Current, usize, usize, u32, bool),
     Refused(Cause, usize),
+}
+
+// What a refusal says: its cause, and its place.
+impl Declared {
+    pub fn cause(self) -> Cause
+        ensures { λ r. ⌜ r ≡ declaredCause self ⌝ }
+    {
+        match self {
+            Declared::Done(_, _, _, _, _) => Cause::UnexpectedToken,
+            Declared::Refused(cause, _) => cause,
+        }
+    }
+
+    pub fn place(self) -> usize
+        ensures { λ r. ⌜ r ≡ declaredPlace self ⌝ }
+    {
+        match self {
+            Declared::Done(_, _, _, _, _) => 0,
+            Declared::Refused(_, at) => at,
+        }
+    }
 }
 
 // What was read is a declaration of a kind.

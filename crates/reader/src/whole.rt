@@ -22,7 +22,7 @@ ghost use Rattle.tokens.specs.Promise.{stream, LiesIn, Whole as Spelled, textIn
 ghost use Rattle.parser.specs.Storing.{lent};
 ghost use Rattle.reader.specs.Places.{placeIn, Blank, Begins};
 ghost use Rattle.reader.specs.Ahead.{externalKind, externalAhead, kindAhead};
-ghost use Rattle.reader.specs.Whole.{groupCount, PlacesTo, recordsOf, noteOf, PassesTo, HasNames, NamesTo, storedKinds, Known, First, Reads};
+ghost use Rattle.reader.specs.Whole.{passedCause, passedPlace, groupCount, PlacesTo, recordsOf, noteOf, PassesTo, HasNames, NamesTo, storedKinds, Known, First, Reads};
 
 // What a pass has seen: which kinds, a top rule, `@detectDelim`, a list of dialects, and where the last one begins.
 pub struct Noted {
@@ -36,6 +36,27 @@ pub struct Noted {
 pub enum Passed {
     Done(Current, usize, usize, usize, Noted),
     Refused(Cause, usize),
+}
+
+// What a refusal says: its cause, and its place.
+impl Passed {
+    pub fn cause(self) -> Cause
+        ensures { λ r. ⌜ r ≡ passedCause self ⌝ }
+    {
+        match self {
+            Passed::Done(_, _, _, _, _) => Cause::UnexpectedToken,
+            Passed::Refused(cause, _) => cause,
+        }
+    }
+
+    pub fn place(self) -> usize
+        ensures { λ r. ⌜ r ≡ passedPlace self ⌝ }
+    {
+        match self {
+            Passed::Done(_, _, _, _, _) => 0,
+            Passed::Refused(_, at) => at,
+        }
+    }
 }
 
 // The tree is stored: how many words and bytes it takes.
@@ -89,7 +110,7 @@ fn declaration_measured(
     ensures { λ r. ⌜ PlacesTo seen (now (source .entry)) token (now (words .entry)) (now (bytes .entry)) (now (words .exit)) (now (bytes .exit))
         (now (records .entry)) (now (texts .entry)) (now (records .exit)) (now (texts .exit)) r ⌝ }
 {
-    match top::parse_declaration(
+    let measured = top::parse_declaration(
         source,
         token,
         seen,
@@ -97,23 +118,23 @@ fn declaration_measured(
         0,
         &mut texts[..0],
         0,
-    ) {
-        Declared::Refused(cause, at) => Declared::Refused(cause, at),
-        Declared::Done(u, m, y, kind, holds) => {
-            let p = place(kind);
-            let n = words[p];
-            let x = bytes[p];
-            words[p] = n + m;
-            bytes[p] = x + y;
-            if records.len() == 0 && texts.len() == 0 {
-                return Declared::Done(u, m, y, kind, holds);
-            }
-            match top::parse_declaration(source, token, seen, records, n, texts, x) {
-                Declared::Refused(cause, at) => Declared::Refused(cause, at),
-                Declared::Done(_, _, _, _, _) => Declared::Done(u, m, y, kind, holds),
-            }
-        }
+    );
+    let Declared::Done(u, m, y, kind, holds) = measured else {
+        return measured;
+    };
+    let p = place(kind);
+    let n = words[p];
+    let x = bytes[p];
+    words[p] = n + m;
+    bytes[p] = x + y;
+    if records.len() == 0 && texts.len() == 0 {
+        return Declared::Done(u, m, y, kind, holds);
     }
+    let stored = top::parse_declaration(source, token, seen, records, n, texts, x);
+    let Declared::Done(_, _, _, _, _) = stored else {
+        return stored;
+    };
+    Declared::Done(u, m, y, kind, holds)
 }
 
 // The kind of an external declaration, from the name after `@external`; 0 where it is not known.
@@ -143,10 +164,10 @@ fn external_kind(source: &[u8], name: Part) -> u32
 fn external_ahead(source: &[u8], token: Current) -> u32
     ensures { λ r. ⌜ r ≡ externalAhead (nextD (stream (now (source .entry)) token)) ⌝ }
 {
-    match tokens::next(source, token) {
-        Arrived::Refused(_, _) => 0,
-        Arrived::At(u) => external_kind(source, tokens::name(u)),
-    }
+    let Arrived::At(u) = tokens::next(source, token) else {
+        return 0;
+    };
+    external_kind(source, tokens::name(u))
 }
 
 // The kind of a declaration, from its first tokens; 0 where it is not known.
@@ -206,14 +227,13 @@ fn declaration_placed(
     let p = place(ahead);
     let n = words[p];
     let x = bytes[p];
-    match top::parse_declaration(source, token, seen, records, n, texts, x) {
-        Declared::Refused(cause, at) => Declared::Refused(cause, at),
-        Declared::Done(u, m, y, kind, holds) => {
-            words[p] = m;
-            bytes[p] = y;
-            Declared::Done(u, m - n, y - x, kind, holds)
-        }
-    }
+    let declared = top::parse_declaration(source, token, seen, records, n, texts, x);
+    let Declared::Done(u, m, y, kind, holds) = declared else {
+        return declared;
+    };
+    words[p] = m;
+    bytes[p] = y;
+    Declared::Done(u, m - n, y - x, kind, holds)
 }
 
 // The later of two tokens: that of a list of dialects.
@@ -294,18 +314,23 @@ fn pass(
                 return Passed::Done(t, m, y, count, noted);
             }
             Current::Token(_, _, _) => {
-                match declaration_placed(source, t, noted.seen, words, bytes, records, texts) {
-                    Declared::Refused(cause, at) => {
-                        return Passed::Refused(cause, at);
-                    }
-                    Declared::Done(u, k, z, kind, top) => {
-                        noted = note(noted, t, kind, top);
-                        count += records_of(kind);
-                        t = u;
-                        m += k;
-                        y += z;
-                    }
-                }
+                let declared = declaration_placed(
+                    source,
+                    t,
+                    noted.seen,
+                    words,
+                    bytes,
+                    records,
+                    texts,
+                );
+                let Declared::Done(u, k, z, kind, top) = declared else {
+                    return Passed::Refused(declared.cause(), declared.place());
+                };
+                noted = note(noted, t, kind, top);
+                count += records_of(kind);
+                t = u;
+                m += k;
+                y += z;
             }
         }
     }
@@ -328,10 +353,11 @@ fn dialects(
     if !noted.listed {
         return Listed::Done(last, n, x, 0);
     }
-    match tokens::next(source, last) {
-        Arrived::Refused(cause, at) => Listed::Refused(cause, at),
-        Arrived::At(u) => rules::parse_names(source, u, 24, records, n, texts, x),
-    }
+    let arrived = tokens::next(source, last);
+    let Arrived::At(u) = arrived else {
+        return Listed::Refused(arrived.cause(), arrived.place());
+    };
+    rules::parse_names(source, u, 24, records, n, texts, x)
 }
 
 fn flag(b: bool) -> u32
@@ -362,29 +388,27 @@ fn store(
     blocks::line_up(bytes, 0);
     let m = words[11];
     let y = bytes[11];
-    match dialects(source, noted, records, m, texts, y) {
-        Listed::Refused(cause, at) => Whole::Refused(cause, at),
-        Listed::Done(_, k, z, _) => {
-            words[11] = k;
-            bytes[11] = z;
-            match pass(source, token, words, bytes, records, texts) {
-                Passed::Refused(cause, at) => Whole::Refused(cause, at),
-                Passed::Done(_, _, _, _, _) => {
-                    let i = words[11];
-                    let w = bytes[11];
-                    let j = store::put_plain(
-                        records,
-                        i,
-                        1,
-                        tokens::start(token),
-                        flag(noted.delim),
-                        count,
-                    );
-                    Whole::Stored(j, w)
-                }
-            }
-        }
-    }
+    let listed = dialects(source, noted, records, m, texts, y);
+    let Listed::Done(_, k, z, _) = listed else {
+        return Whole::Refused(listed.cause(), listed.place());
+    };
+    words[11] = k;
+    bytes[11] = z;
+    let passed = pass(source, token, words, bytes, records, texts);
+    let Passed::Done(_, _, _, _, _) = passed else {
+        return Whole::Refused(passed.cause(), passed.place());
+    };
+    let i = words[11];
+    let w = bytes[11];
+    let j = store::put_plain(
+        records,
+        i,
+        1,
+        tokens::start(token),
+        flag(noted.delim),
+        count,
+    );
+    Whole::Stored(j, w)
 }
 
 // From the first token on, with room for the sizes of the groups.
@@ -399,43 +423,41 @@ fn parse_over(
     requires { ⌜ (length (now source) ≤ 0x10000) × First (now source) token × Blank groupCount (now words) × Blank groupCount (now bytes) ⌝ }
     ensures { λ r. ⌜ Reads (now (source .entry)) (now (records .entry)) (now (texts .entry)) (now (records .exit)) (now (texts .exit)) r ⌝ }
 {
-    match pass(
+    let passed = pass(
         source,
         token,
         words,
         bytes,
         &mut records[..0],
         &mut texts[..0],
-    ) {
-        Passed::Refused(cause, at) => Whole::Refused(cause, at),
-        Passed::Done(last, n, x, count, noted) => {
-            if !noted.top {
-                return Whole::Refused(Cause::NoTop, tokens::start(last));
-            }
-            match dialects(source, noted, &mut records[..0], n, &mut texts[..0], x) {
-                Listed::Refused(cause, at) => Whole::Refused(cause, at),
-                Listed::Done(_, m, y, named) => {
-                    if records.len() < m + 7 {
-                        return Whole::Refused(Cause::RecordsFull, 0);
-                    }
-                    if texts.len() < y {
-                        return Whole::Refused(Cause::TextsFull, 0);
-                    }
-                    store(
-                        source,
-                        token,
-                        last,
-                        noted,
-                        count + named,
-                        words,
-                        bytes,
-                        records,
-                        texts,
-                    )
-                }
-            }
-        }
+    );
+    let Passed::Done(last, n, x, count, noted) = passed else {
+        return Whole::Refused(passed.cause(), passed.place());
+    };
+    if !noted.top {
+        return Whole::Refused(Cause::NoTop, tokens::start(last));
     }
+    let listed = dialects(source, noted, &mut records[..0], n, &mut texts[..0], x);
+    let Listed::Done(_, m, y, named) = listed else {
+        return Whole::Refused(listed.cause(), listed.place());
+    };
+    if records.len() < m + 7 {
+        return Whole::Refused(Cause::RecordsFull, 0);
+    }
+    if texts.len() < y {
+        return Whole::Refused(Cause::TextsFull, 0);
+    }
+    store(
+        source,
+        token,
+        last,
+        noted,
+        count + named,
+        words,
+        bytes,
+        records,
+        texts,
+    )
 }
 
 // From the first token on, the tree of a text is measured, and stored where there is room for all of it.

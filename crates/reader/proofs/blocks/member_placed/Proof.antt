@@ -35,11 +35,22 @@ slice-read-x c =
 member-requires : tie.Need-member-requires
 member-requires c κs = begins-ready (c .before .before .before .before .before .before .before .before .before .before .pre) _
 
-enum-known-cause : tie.Need-enum-known-cause
-enum-known-cause c = search needs
+enum-known-joined : tie.Need-enum-known-joined
+enum-known-joined c = search needs
 
-enum-known-u : tie.Need-enum-known-u
-enum-known-u c = search needs
+enum-told : tie.Need-enum-told
+enum-told c = search needs
+
+same-length : tie.Need-same-length
+same-length c = search needs
+
+same-length-2 : tie.Need-same-length-2
+same-length-2 c = search needs
+
+returns : tie.Need-returns
+returns c =
+    let c6 = c .before .before .before .before .before .before in
+    rw (c .enum-told .given .1) (joined-not _ _ _ _ _ _ _ _ (c6 .member .result) (c6 .member .ensures) (c .enum-told .given .1))
 
 mul-words : tie.Need-mul-words
 mul-words c =
@@ -65,26 +76,15 @@ slice-write-bytes c =
     let c18 = c12 .before .before .before .before .before .before in
     let k = group-in (c18 .args .block) (c18 .args .free) _ (c18 .args .token) (c12 .group-ahead .ensures) in let a = c18 .pre .words-all in let b = c18 .pre .bytes-all in omega arith
 
-sub-t29 : tie.Need-sub-t29
-sub-t29 c =
+sub-t18 : tie.Need-sub-t18
+sub-t18 c =
     let c7 = c .before .before .before .before .before .before .before in
-    let j = joined-at _ _ _ _ _ _ _ _ (c7 .member .result) (c7 .member .ensures) (c .before .u .given .1) in let o = settled-on j in omega arith
+    let j = joined-at _ _ _ _ _ _ _ _ (c7 .member .result) (c7 .member .ensures) (c .before .joined .given .1) in let o = settled-on j in omega arith
 
-sub-t32 : tie.Need-sub-t32
-sub-t32 c =
+sub-t20 : tie.Need-sub-t20
+sub-t20 c =
     let c7 = c .before .before .before .before .before .before .before in
-    let j = joined-at _ _ _ _ _ _ _ _ (c7 .member .result) (c7 .member .ensures) (c .before .u .given .1) in let o = settled-on j in omega arith
-
-same-length : tie.Need-same-length
-same-length c = search needs
-
-same-length-2 : tie.Need-same-length-2
-same-length-2 c = search needs
-
-returns : tie.Need-returns
-returns c =
-    let c7 = c .before .before .before .before .before .before .before in
-    joined-not _ _ _ _ _ _ _ _ (c7 .member .result) (c7 .member .ensures) (c .before .cause .given .1)
+    let j = joined-at _ _ _ _ _ _ _ _ (c7 .member .result) (c7 .member .ensures) (c .before .joined .given .1) in let o = settled-on j in omega arith
 
 same-length-3 : tie.Need-same-length-3
 same-length-3 c = search needs
@@ -102,7 +102,7 @@ returns-2 : tie.Need-returns-2
 returns-2 c =
     let c7 = c .before .before .before .before .before .before .before in
     let c12 = c7 .before .before .before .before .before in
-    let j = joined-at _ _ _ _ _ _ _ _ (c7 .member .result) (c7 .member .ensures) (c .before .u .given .1) in settled j (c12 .group-ahead .ensures) refl refl refl refl
+    let j = joined-at _ _ _ _ _ _ _ _ (c7 .member .result) (c7 .member .ensures) (c .before .joined .given .1) in settled j (c12 .group-ahead .ensures) refl refl refl refl
 
 pub member-placed-spec : {M : Type 1} → statement M
 member-placed-spec =
@@ -114,17 +114,17 @@ member-placed-spec =
     mul-x
     slice-read-x
     member-requires
-    enum-known-cause
-    enum-known-u
+    enum-known-joined
+    enum-told
+    same-length
+    same-length-2
+    returns
     mul-words
     slice-write-words
     mul-bytes
     slice-write-bytes
-    sub-t29
-    sub-t32
-    same-length
-    same-length-2
-    returns
+    sub-t18
+    sub-t20
     same-length-3
     same-length-4
     same-length-5

@@ -26,11 +26,22 @@ slice-aggregate-parse-declaration-2 c = search needs
 parse-declaration-requires : tie.Need-parse-declaration-requires
 parse-declaration-requires c κs = begins-first (c .before .before .before .before .before .before .before .pre)
 
-enum-known-cause : tie.Need-enum-known-cause
-enum-known-cause c = search needs
+enum-known-measured : tie.Need-enum-known-measured
+enum-known-measured c = search needs
 
-enum-known-u : tie.Need-enum-known-u
-enum-known-u c = search needs
+enum-told : tie.Need-enum-told
+enum-told c = search needs
+
+same-length : tie.Need-same-length
+same-length c = search needs
+
+same-length-2 : tie.Need-same-length-2
+same-length-2 c = search needs
+
+returns : tie.Need-returns
+returns c =
+    let c6 = c .before .before .before .before .before .before in
+    rw (c .enum-told .given .1) (declared-not _ _ _ _ _ _ (c6 .parse-declaration .result) (c6 .parse-declaration .ensures) (c .enum-told .given .1))
 
 place-requires : tie.Need-place-requires
 place-requires c κs = search needs
@@ -60,7 +71,7 @@ add-words c =
     let c4 = c .before .before .before .before in
     let c10 = c4 .before .before .before .before .before .before in
     let c18 = c10 .before .before .before .before .before .before .before .before in
-    let j = declared-at _ _ _ _ _ _ (c10 .parse-declaration .result) (c10 .parse-declaration .ensures) (c4 .u .given .1) in let k = placed-small j (c18 .pre) (c .before .before .place .result) .0 in omega arith
+    let j = declared-at _ _ _ _ _ _ (c10 .parse-declaration .result) (c10 .parse-declaration .ensures) (c4 .measured .given .1) in let k = placed-small j (c18 .pre) (c .before .before .place .result) .0 in omega arith
 
 mul-words : tie.Need-mul-words
 mul-words c =
@@ -77,7 +88,7 @@ add-bytes c =
     let c4 = c .before .before .before .before in
     let c10 = c4 .before .before .before .before .before .before in
     let c18 = c10 .before .before .before .before .before .before .before .before in
-    let j = declared-at _ _ _ _ _ _ (c10 .parse-declaration .result) (c10 .parse-declaration .ensures) (c4 .u .given .1) in let k = placed-small j (c18 .pre) (c .before .before .place .result) .1 in omega arith
+    let j = declared-at _ _ _ _ _ _ (c10 .parse-declaration .result) (c10 .parse-declaration .ensures) (c4 .measured .given .1) in let k = placed-small j (c18 .pre) (c .before .before .place .result) .1 in omega arith
 
 mul-bytes : tie.Need-mul-bytes
 mul-bytes c =
@@ -89,36 +100,11 @@ slice-write-bytes c =
     let c18 = c .before .before .before .before .before .before .before .before .before .before .before .before .before .before .before .before .before .before in
     let k = place-in _ (c .before .before .place .ensures) in let a = c18 .pre .words-all in let b = c18 .pre .bytes-all in omega arith
 
-same-length : tie.Need-same-length
-same-length c = search needs
-
-same-length-2 : tie.Need-same-length-2
-same-length-2 c = search needs
-
 same-length-3 : tie.Need-same-length-3
 same-length-3 c = search needs
 
 same-length-4 : tie.Need-same-length-4
 same-length-4 c = search needs
-
-returns : tie.Need-returns
-returns c =
-    let c4 = c .before .before .before .before in
-    let c6 = c4 .before .before in
-    let c12 = c6 .before .before .before .before .before .before in
-    let c20 = c12 .before .before .before .before .before .before .before .before in
-    let j = declared-at _ _ _ _ _ _ (c12 .parse-declaration .result) (c12 .parse-declaration .ensures) (c6 .u .given .1) in let v = no-words (j .lays .stores) refl (c20 .args .records .now) in let w = no-texts (j .lays .stores) refl (c20 .args .texts .now) in placed-none j refl refl (c4 .place .ensures) (sym (ap length v) ∙ (c .before .if1 .taken)) (sym (ap length w) ∙ is-zero _ (c .if2 .taken)) v w refl refl
-
-parse-declaration-requires-2 : tie.Need-parse-declaration-requires-2
-parse-declaration-requires-2 c κs =
-    let c21 = c .before .before .before .before .before .before .before .before .before .before .before .before .before .before .before .before .before .before .before .before .before in
-    begins-roomy (c21 .pre) _
-
-enum-known-cause-2 : tie.Need-enum-known-cause-2
-enum-known-cause-2 c = search needs
-
-enum-told : tie.Need-enum-told
-enum-told c = search needs
 
 same-length-5 : tie.Need-same-length-5
 same-length-5 c = search needs
@@ -128,8 +114,21 @@ same-length-6 c = search needs
 
 returns-2 : tie.Need-returns-2
 returns-2 c =
-    let c7 = c .before .before .before .before .before .before .before in
-    declared-not _ _ _ _ _ _ (c7 .parse-declaration .result) (c7 .parse-declaration .ensures) (c .before .cause .given .1)
+    let c4 = c .before .before .before .before in
+    let c6 = c4 .before .before in
+    let c12 = c6 .before .before .before .before .before .before in
+    let c20 = c12 .before .before .before .before .before .before .before .before in
+    let j = declared-at _ _ _ _ _ _ (c12 .parse-declaration .result) (c12 .parse-declaration .ensures) (c6 .measured .given .1) in let v = no-words (j .lays .stores) refl (c20 .args .records .now) in let w = no-texts (j .lays .stores) refl (c20 .args .texts .now) in placed-none j refl refl (c4 .place .ensures) (sym (ap length v) ∙ (c .before .if1 .taken)) (sym (ap length w) ∙ is-zero _ (c .if2 .taken)) v w refl refl
+
+parse-declaration-requires-2 : tie.Need-parse-declaration-requires-2
+parse-declaration-requires-2 c κs =
+    begins-roomy (c .before .before .before .before .before .before .before .before .before .before .before .before .before .before .before .before .before .before .before .before .before .pre) _
+
+enum-told-2 : tie.Need-enum-told-2
+enum-told-2 c = search needs
+
+enum-told-3 : tie.Need-enum-told-3
+enum-told-3 c = search needs
 
 same-length-7 : tie.Need-same-length-7
 same-length-7 c = search needs
@@ -145,8 +144,8 @@ same-length-10 c = search needs
 
 returns-3 : tie.Need-returns-3
 returns-3 c =
-    let c7 = c .before .before .before .before .before .before .before in
-    declared-not _ _ _ _ _ _ (c7 .parse-declaration2 .result) (c7 .parse-declaration2 .ensures) (c .before .cause2 .given .1)
+    let c6 = c .before .before .before .before .before .before in
+    rw (c .enum-told3 .given .1) (declared-not _ _ _ _ _ _ (c6 .parse-declaration2 .result) (c6 .parse-declaration2 .ensures) (c .enum-told3 .given .1))
 
 same-length-11 : tie.Need-same-length-11
 same-length-11 c = search needs
@@ -166,7 +165,7 @@ returns-4 c =
     let c12 = c6 .before .before .before .before .before .before in
     let c14 = c12 .before .before in
     let c20 = c14 .before .before .before .before .before .before in
-    let j = declared-at _ _ _ _ _ _ (c20 .parse-declaration .result) (c20 .parse-declaration .ensures) (c14 .u .given .1) in let g = declared-at _ _ _ _ _ _ (c6 .parse-declaration2 .result) (c6 .parse-declaration2 .ensures) (c .enum-told .given .1) in placed-some j refl refl (c12 .place .ensures) g (no-words (j .lays .stores) refl _) (no-texts (j .lays .stores) refl _) refl refl
+    let j = declared-at _ _ _ _ _ _ (c20 .parse-declaration .result) (c20 .parse-declaration .ensures) (c14 .measured .given .1) in let g = declared-at _ _ _ _ _ _ (c6 .parse-declaration2 .result) (c6 .parse-declaration2 .ensures) (c .enum-told2 .given .1) in placed-some j refl refl (c12 .place .ensures) g (no-words (j .lays .stores) refl _) (no-texts (j .lays .stores) refl _) refl refl
 
 pub declaration-measured-spec : {M : Type 1} → statement M
 declaration-measured-spec =
@@ -177,8 +176,11 @@ declaration-measured-spec =
     slice-relend-prefix-parse-declaration-2
     slice-aggregate-parse-declaration-2
     parse-declaration-requires
-    enum-known-cause
-    enum-known-u
+    enum-known-measured
+    enum-told
+    same-length
+    same-length-2
+    returns
     place-requires
     mul-n
     slice-read-n
@@ -190,17 +192,14 @@ declaration-measured-spec =
     add-bytes
     mul-bytes
     slice-write-bytes
-    same-length
-    same-length-2
     same-length-3
     same-length-4
-    returns
-    parse-declaration-requires-2
-    enum-known-cause-2
-    enum-told
     same-length-5
     same-length-6
     returns-2
+    parse-declaration-requires-2
+    enum-told-2
+    enum-told-3
     same-length-7
     same-length-8
     same-length-9

@@ -55,11 +55,22 @@ slice-read-x c =
 parse-declaration-requires : tie.Need-parse-declaration-requires
 parse-declaration-requires c κs = begins-roomy (c .before .before .before .before .before .before .before .before .before .before .before .before .pre) _
 
-enum-known-cause : tie.Need-enum-known-cause
-enum-known-cause c = search needs
+enum-known-declared : tie.Need-enum-known-declared
+enum-known-declared c = search needs
 
-enum-known-u : tie.Need-enum-known-u
-enum-known-u c = search needs
+enum-told : tie.Need-enum-told
+enum-told c = search needs
+
+same-length-5 : tie.Need-same-length-5
+same-length-5 c = search needs
+
+same-length-6 : tie.Need-same-length-6
+same-length-6 c = search needs
+
+returns-2 : tie.Need-returns-2
+returns-2 c =
+    let c6 = c .before .before .before .before .before .before in
+    rw (c .enum-told .given .1) (declared-not _ _ _ _ _ _ (c6 .parse-declaration .result) (c6 .parse-declaration .ensures) (c .enum-told .given .1))
 
 mul-words : tie.Need-mul-words
 mul-words c =
@@ -85,26 +96,15 @@ slice-write-bytes c =
     let c20 = c12 .before .before .before .before .before .before .before .before in
     let k = place-in _ (c12 .place .ensures) in let a = c20 .pre .words-all in let b = c20 .pre .bytes-all in omega arith
 
-sub-t38 : tie.Need-sub-t38
-sub-t38 c =
+sub-t27 : tie.Need-sub-t27
+sub-t27 c =
     let c7 = c .before .before .before .before .before .before .before in
-    let j = declared-at _ _ _ _ _ _ (c7 .parse-declaration .result) (c7 .parse-declaration .ensures) (c .before .u .given .1) in let o = once-on j in omega arith
+    let j = declared-at _ _ _ _ _ _ (c7 .parse-declaration .result) (c7 .parse-declaration .ensures) (c .before .declared .given .1) in let o = once-on j in omega arith
 
-sub-t41 : tie.Need-sub-t41
-sub-t41 c =
+sub-t29 : tie.Need-sub-t29
+sub-t29 c =
     let c7 = c .before .before .before .before .before .before .before in
-    let j = declared-at _ _ _ _ _ _ (c7 .parse-declaration .result) (c7 .parse-declaration .ensures) (c .before .u .given .1) in let o = once-on j in omega arith
-
-same-length-5 : tie.Need-same-length-5
-same-length-5 c = search needs
-
-same-length-6 : tie.Need-same-length-6
-same-length-6 c = search needs
-
-returns-2 : tie.Need-returns-2
-returns-2 c =
-    let c7 = c .before .before .before .before .before .before .before in
-    declared-not _ _ _ _ _ _ (c7 .parse-declaration .result) (c7 .parse-declaration .ensures) (c .before .cause .given .1)
+    let j = declared-at _ _ _ _ _ _ (c7 .parse-declaration .result) (c7 .parse-declaration .ensures) (c .before .declared .given .1) in let o = once-on j in omega arith
 
 same-length-7 : tie.Need-same-length-7
 same-length-7 c = search needs
@@ -124,7 +124,7 @@ returns-3 c =
     let c12 = c7 .before .before .before .before .before in
     let c13 = c12 .before in
     let c14 = c13 .before in
-    let j = declared-at _ _ _ _ _ _ (c7 .parse-declaration .result) (c7 .parse-declaration .ensures) (c .before .u .given .1) in placed-once j (c14 .kind-ahead .ensures) (c13 .if1 .left) (c12 .place .ensures) refl refl refl refl
+    let j = declared-at _ _ _ _ _ _ (c7 .parse-declaration .result) (c7 .parse-declaration .ensures) (c .before .declared .given .1) in placed-once j (c14 .kind-ahead .ensures) (c13 .if1 .left) (c12 .place .ensures) refl refl refl refl
 
 pub declaration-placed-spec : {M : Type 1} → statement M
 declaration-placed-spec =
@@ -143,17 +143,17 @@ declaration-placed-spec =
     mul-x
     slice-read-x
     parse-declaration-requires
-    enum-known-cause
-    enum-known-u
+    enum-known-declared
+    enum-told
+    same-length-5
+    same-length-6
+    returns-2
     mul-words
     slice-write-words
     mul-bytes
     slice-write-bytes
-    sub-t38
-    sub-t41
-    same-length-5
-    same-length-6
-    returns-2
+    sub-t27
+    sub-t29
     same-length-7
     same-length-8
     same-length-9

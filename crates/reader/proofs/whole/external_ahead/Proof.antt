@@ -9,20 +9,20 @@ use Rattle.reader.proofs.whole.external_ahead.Tie as tie
 next-requires : tie.Need-next-requires
 next-requires c κs = search needs
 
+enum-known-u : tie.Need-enum-known-u
+enum-known-u c = search needs
+
 enum-told : tie.Need-enum-told
 enum-told c = search needs
 
-enum-known-u : tie.Need-enum-known-u
-enum-known-u c = search needs
+returns : tie.Need-returns
+returns c = ahead-none _ (c .before .before .next .ensures .0) (c .enum-told .given .1)
 
 name-requires : tie.Need-name-requires
 name-requires c κs = search needs
 
 external-kind-requires : tie.Need-external-kind-requires
 external-kind-requires c κs = rw (c .name .ensures) (ahead-whole _ _ (c .before .before .before .before .next .ensures .1) (c .before .before .u .given .1))
-
-returns : tie.Need-returns
-returns c = ahead-none _ (c .before .before .next .ensures .0) (c .enum-told .given .1)
 
 returns-2 : tie.Need-returns-2
 returns-2 c = c .external-kind .ensures ∙ rw (c .before .name .ensures) (ahead-named _ (c .before .before .before .before .before .next .ensures .0) (c .before .before .before .u .given .1))
@@ -32,9 +32,9 @@ external-ahead-spec =
     tie.close
     (tie.spec
     next-requires
-    enum-told
     enum-known-u
+    enum-told
+    returns
     name-requires
     external-kind-requires
-    returns
     returns-2)

@@ -4,6 +4,7 @@ use native.Mathlib.Omega.{arith}
 use mathlib.Core.Path.{refl}
 use Rattle.notation.specs.Parser.{size}
 use Rattle.tokens.specs.Promise.{stream}
+use Rattle.reader.proofs.Told.{declared-told}
 use Rattle.reader.proofs.WholeLaws.{placed-at, placed-not}
 use Rattle.reader.proofs.Passing.{Passing, passing-start, passing-done, passing-begins, passing-small, passing-refused, passing-more, is-token}
 use borrow.Author.Needs.{needs}
@@ -42,42 +43,46 @@ enum-told-2 c = search needs
 
 declaration-placed-requires : tie.Need-declaration-placed-requires Inv-loop μ-loop
 declaration-placed-requires c κs =
-    let c6 = c .before .before .before .before .before .before in
-    let c12 = c6 .before .before .before .before .before .before in
-    passing-begins (c6 .loop .inv) (c12 .pre)
+    passing-begins (c .before .before .before .before .before .before .loop .inv) (c .before .before .before .before .before .before .before .before .before .before .before .before .pre)
 
-enum-known-cause : tie.Need-enum-known-cause Inv-loop μ-loop
-enum-known-cause c = search needs
+enum-known-declared : tie.Need-enum-known-declared Inv-loop μ-loop
+enum-known-declared c = search needs
+
+enum-told-3 : tie.Need-enum-told-3 Inv-loop μ-loop
+enum-told-3 c = search needs
+
+cause-requires : tie.Need-cause-requires Inv-loop μ-loop
+cause-requires c κs = search needs
+
+place-requires : tie.Need-place-requires Inv-loop μ-loop
+place-requires c κs = search needs
 
 same-length-5 : tie.Need-same-length-5 Inv-loop μ-loop
 same-length-5 c =
-    let c18 = c .before .before .before .before .before .before .before .before .before .before .before .before .before .before .before .before .before .before in
-    omega (arith, c18 .loop .inv .fills .same-places)
+    let c19 = c .before .before .before .before .before .before .before .before .before .before .before .before .before .before .before .before .before .before .before in
+    omega (arith, c19 .loop .inv .fills .same-places)
 
 same-length-6 : tie.Need-same-length-6 Inv-loop μ-loop
 same-length-6 c =
-    let c18 = c .before .before .before .before .before .before .before .before .before .before .before .before .before .before .before .before .before .before in
-    omega (arith, c18 .loop .inv .fills .same-bytes)
+    let c19 = c .before .before .before .before .before .before .before .before .before .before .before .before .before .before .before .before .before .before .before in
+    omega (arith, c19 .loop .inv .fills .same-bytes)
 
 same-length-7 : tie.Need-same-length-7 Inv-loop μ-loop
 same-length-7 c =
-    let c18 = c .before .before .before .before .before .before .before .before .before .before .before .before .before .before .before .before .before .before in
-    omega (arith, c18 .loop .inv .fills .records .same)
+    let c19 = c .before .before .before .before .before .before .before .before .before .before .before .before .before .before .before .before .before .before .before in
+    omega (arith, c19 .loop .inv .fills .records .same)
 
 same-length-8 : tie.Need-same-length-8 Inv-loop μ-loop
 same-length-8 c =
-    let c18 = c .before .before .before .before .before .before .before .before .before .before .before .before .before .before .before .before .before .before in
-    omega (arith, c18 .loop .inv .fills .texts .same)
+    let c19 = c .before .before .before .before .before .before .before .before .before .before .before .before .before .before .before .before .before .before .before in
+    omega (arith, c19 .loop .inv .fills .texts .same)
 
 returns-2 : tie.Need-returns-2 Inv-loop μ-loop
 returns-2 c =
-    let c11 = c .before .before .before .before .before .before .before .before .before .before .before in
-    let c16 = c11 .before .before .before .before .before in
-    let c18 = c16 .before .before in
-    passing-refused (c18 .loop .inv) (is-token (c16 .enum-told2 .given .1)) (placed-not _ _ _ _ _ _ _ _ _ _ _ (c11 .declaration-placed .result) (c11 .declaration-placed .ensures) (c .before .cause .given .1))
-
-enum-known-u : tie.Need-enum-known-u Inv-loop μ-loop
-enum-known-u c = search needs
+    let c12 = c .before .before .before .before .before .before .before .before .before .before .before .before in
+    let c17 = c12 .before .before .before .before .before in
+    let c19 = c17 .before .before in
+    passing-refused (c19 .loop .inv) (is-token (c17 .enum-told2 .given .1)) (placed-not _ _ _ _ _ _ _ _ _ _ _ (c12 .declaration-placed .result) (c12 .declaration-placed .ensures) (declared-told (c .before .before .enum-told3 .given .1) (c .before .cause .ensures) (c .place .ensures)))
 
 note-requires : tie.Need-note-requires Inv-loop μ-loop
 note-requires c κs = tt
@@ -92,7 +97,7 @@ add-count c =
     let c18 = c13 .before .before .before .before .before in
     let c20 = c18 .before .before in
     let c26 = c20 .before .before .before .before .before .before in
-    let k = passing-small (passing-more (c20 .loop .inv) (is-token (c18 .enum-told2 .given .1)) (c26 .pre) (placed-at _ _ _ _ _ _ _ _ _ _ _ (c13 .declaration-placed .result) (c13 .declaration-placed .ensures) (c3 .u .given .1)) (c .records-of .ensures) refl) (c26 .pre .small) .0 in omega arith
+    let k = passing-small (passing-more (c20 .loop .inv) (is-token (c18 .enum-told2 .given .1)) (c26 .pre) (placed-at _ _ _ _ _ _ _ _ _ _ _ (c13 .declaration-placed .result) (c13 .declaration-placed .ensures) (c3 .declared .given .1)) (c .records-of .ensures) refl) (c26 .pre .small) .0 in omega arith
 
 add-m : tie.Need-add-m Inv-loop μ-loop
 add-m c =
@@ -101,7 +106,7 @@ add-m c =
     let c18 = c13 .before .before .before .before .before in
     let c20 = c18 .before .before in
     let c26 = c20 .before .before .before .before .before .before in
-    let k = passing-small (passing-more (c20 .loop .inv) (is-token (c18 .enum-told2 .given .1)) (c26 .pre) (placed-at _ _ _ _ _ _ _ _ _ _ _ (c13 .declaration-placed .result) (c13 .declaration-placed .ensures) (c3 .u .given .1)) (c .records-of .ensures) refl) (c26 .pre .small) .1 in omega arith
+    let k = passing-small (passing-more (c20 .loop .inv) (is-token (c18 .enum-told2 .given .1)) (c26 .pre) (placed-at _ _ _ _ _ _ _ _ _ _ _ (c13 .declaration-placed .result) (c13 .declaration-placed .ensures) (c3 .declared .given .1)) (c .records-of .ensures) refl) (c26 .pre .small) .1 in omega arith
 
 add-y : tie.Need-add-y Inv-loop μ-loop
 add-y c =
@@ -110,13 +115,13 @@ add-y c =
     let c18 = c13 .before .before .before .before .before in
     let c20 = c18 .before .before in
     let c26 = c20 .before .before .before .before .before .before in
-    let k = passing-small (passing-more (c20 .loop .inv) (is-token (c18 .enum-told2 .given .1)) (c26 .pre) (placed-at _ _ _ _ _ _ _ _ _ _ _ (c13 .declaration-placed .result) (c13 .declaration-placed .ensures) (c3 .u .given .1)) (c .records-of .ensures) refl) (c26 .pre .small) .2 in omega arith
+    let k = passing-small (passing-more (c20 .loop .inv) (is-token (c18 .enum-told2 .given .1)) (c26 .pre) (placed-at _ _ _ _ _ _ _ _ _ _ _ (c13 .declaration-placed .result) (c13 .declaration-placed .ensures) (c3 .declared .given .1)) (c .records-of .ensures) refl) (c26 .pre .small) .2 in omega arith
 
 loop-less : tie.Need-loop-less Inv-loop μ-loop
 loop-less c =
     let c3 = c .before .before .before in
     let c13 = c3 .before .before .before .before .before .before .before .before .before .before in
-    let k = placed-at _ _ _ _ _ _ _ _ _ _ _ (c13 .declaration-placed .result) (c13 .declaration-placed .ensures) (c3 .u .given .1) .declares .onward .fewer in omega arith
+    let k = placed-at _ _ _ _ _ _ _ _ _ _ _ (c13 .declaration-placed .result) (c13 .declaration-placed .ensures) (c3 .declared .given .1) .declares .onward .fewer in omega arith
 
 loop-again : tie.Need-loop-again Inv-loop μ-loop
 loop-again c =
@@ -125,7 +130,7 @@ loop-again c =
     let c18 = c13 .before .before .before .before .before in
     let c20 = c18 .before .before in
     let c26 = c20 .before .before .before .before .before .before in
-    passing-more (c20 .loop .inv) (is-token (c18 .enum-told2 .given .1)) (c26 .pre) (placed-at _ _ _ _ _ _ _ _ _ _ _ (c13 .declaration-placed .result) (c13 .declaration-placed .ensures) (c3 .u .given .1)) (c .records-of .ensures) (c .before .note .ensures)
+    passing-more (c20 .loop .inv) (is-token (c18 .enum-told2 .given .1)) (c26 .pre) (placed-at _ _ _ _ _ _ _ _ _ _ _ (c13 .declaration-placed .result) (c13 .declaration-placed .ensures) (c3 .declared .given .1)) (c .records-of .ensures) (c .before .note .ensures)
 
 pub pass-spec : {M : Type 1} → statement M
 pass-spec =
@@ -142,13 +147,15 @@ pass-spec =
     returns
     enum-told-2
     declaration-placed-requires
-    enum-known-cause
+    enum-known-declared
+    enum-told-3
+    cause-requires
+    place-requires
     same-length-5
     same-length-6
     same-length-7
     same-length-8
     returns-2
-    enum-known-u
     note-requires
     records-of-requires
     add-count

@@ -1,6 +1,8 @@
 -- `whole::store` meets its contract.
 -- Assumes nothing.
 use native.Mathlib.Omega.{arith}
+use Rattle.reader.proofs.Told.{passed-told}
+use Rattle.parser.proofs.Told.{listed-told}
 use Rattle.reader.proofs.ParseLaws.{passed-at, passed-not}
 use Rattle.reader.proofs.StoreLaws.{known-names, words-small, bytes-small, names-at, pass-begins, ends-all, put-asks, whole-read, named, named-not, never}
 use borrow.Author.Needs.{needs}
@@ -30,11 +32,34 @@ dialects-requires c κs =
     let c17 = c10 .before .before .before .before .before .before .before in
     let b = names-at (c17 .pre .0) (c17 .pre .1) (c17 .pre .2) (c10 .line-up .ensures) (c6 .line-up2 .ensures) in (known-names (c17 .pre .0) (c17 .pre .1) (c17 .pre .2), c17 .pre .0, omega (arith, b .0), omega (arith, b .1))
 
-enum-known-cause : tie.Need-enum-known-cause
-enum-known-cause c = search needs
+enum-known-listed : tie.Need-enum-known-listed
+enum-known-listed c = search needs
 
-enum-known-k : tie.Need-enum-known-k
-enum-known-k c = search needs
+enum-told : tie.Need-enum-told
+enum-told c = search needs
+
+cause-requires : tie.Need-cause-requires
+cause-requires c κs = search needs
+
+place-requires : tie.Need-place-requires
+place-requires c κs = search needs
+
+same-length : tie.Need-same-length
+same-length c = search needs
+
+same-length-2 : tie.Need-same-length-2
+same-length-2 c = search needs
+
+same-length-3 : tie.Need-same-length-3
+same-length-3 c = search needs
+
+same-length-4 : tie.Need-same-length-4
+same-length-4 c = search needs
+
+returns : tie.Need-returns
+returns c =
+    let c8 = c .before .before .before .before .before .before .before .before in
+    absurd (named-not _ _ _ _ _ (c8 .dialects .result) (c8 .dialects .ensures) (listed-told (c .before .before .enum-told .given .1) (c .before .cause .ensures) (c .place .ensures)))
 
 slice-write-words : tie.Need-slice-write-words
 slice-write-words c = search needs
@@ -49,13 +74,43 @@ pass-requires c κs =
     let c18 = c11 .before .before .before .before .before .before .before in
     let c22 = c18 .before .before .before .before in
     let c29 = c22 .before .before .before .before .before .before .before in
-    let d = named _ _ _ _ _ (c11 .dialects .result) (c11 .dialects .ensures) (c5 .k .given .1) _ (c29 .pre .2 .noted .named) in pass-begins (c29 .pre .0) (c29 .pre .1) (c29 .pre .2) (c22 .line-up .ensures) (c18 .line-up2 .ensures) d
+    let d = named _ _ _ _ _ (c11 .dialects .result) (c11 .dialects .ensures) (c5 .listed .given .1) _ (c29 .pre .2 .noted .named) in pass-begins (c29 .pre .0) (c29 .pre .1) (c29 .pre .2) (c22 .line-up .ensures) (c18 .line-up2 .ensures) d
 
-enum-known-cause-2 : tie.Need-enum-known-cause-2
-enum-known-cause-2 c = search needs
+enum-told-2 : tie.Need-enum-told-2
+enum-told-2 c = search needs
 
-enum-told : tie.Need-enum-told
-enum-told c = search needs
+enum-told-3 : tie.Need-enum-told-3
+enum-told-3 c = search needs
+
+cause-requires-2 : tie.Need-cause-requires-2
+cause-requires-2 c κs = search needs
+
+place-requires-2 : tie.Need-place-requires-2
+place-requires-2 c κs = search needs
+
+same-length-5 : tie.Need-same-length-5
+same-length-5 c =
+    let c12 = c .before .before .before .before .before .before .before .before .before .before .before .before in
+    let c42 = c12 .before .before .before .before .before .before .before .before .before .before .before .before .before .before .before .before .before .before .before .before .before .before .before .before .before .before .before .before .before .before in
+    never (c42 .pre .2 .surveyed .gives) (passed-not _ _ _ _ _ _ _ _ _ _ (c12 .pass .result) (c12 .pass .ensures) (passed-told (c .before .before .enum-told3 .given .1) (c .before .cause2 .ensures) (c .place2 .ensures)))
+
+same-length-6 : tie.Need-same-length-6
+same-length-6 c =
+    let c12 = c .before .before .before .before .before .before .before .before .before .before .before .before in
+    let c42 = c12 .before .before .before .before .before .before .before .before .before .before .before .before .before .before .before .before .before .before .before .before .before .before .before .before .before .before .before .before .before .before in
+    never (c42 .pre .2 .surveyed .gives) (passed-not _ _ _ _ _ _ _ _ _ _ (c12 .pass .result) (c12 .pass .ensures) (passed-told (c .before .before .enum-told3 .given .1) (c .before .cause2 .ensures) (c .place2 .ensures)))
+
+same-length-7 : tie.Need-same-length-7
+same-length-7 c = search needs
+
+same-length-8 : tie.Need-same-length-8
+same-length-8 c = search needs
+
+returns-2 : tie.Need-returns-2
+returns-2 c =
+    let c12 = c .before .before .before .before .before .before .before .before .before .before .before .before in
+    let c42 = c12 .before .before .before .before .before .before .before .before .before .before .before .before .before .before .before .before .before .before .before .before .before .before .before .before .before .before .before .before .before .before in
+    never (c42 .pre .2 .surveyed .gives) (passed-not _ _ _ _ _ _ _ _ _ _ (c12 .pass .result) (c12 .pass .ensures) (passed-told (c .before .before .enum-told3 .given .1) (c .before .cause2 .ensures) (c .place2 .ensures)))
 
 slice-read-i : tie.Need-slice-read-i
 slice-read-i c =
@@ -65,7 +120,7 @@ slice-read-i c =
     let c30 = c23 .before .before .before .before .before .before .before in
     let c34 = c30 .before .before .before .before in
     let c41 = c34 .before .before .before .before .before .before .before in
-    let d = named _ _ _ _ _ (c23 .dialects .result) (c23 .dialects .ensures) (c17 .k .given .1) _ (c41 .pre .2 .noted .named) in let p = passed-at _ _ _ _ _ _ _ _ _ _ (c11 .pass .result) (c11 .pass .ensures) (c .before .enum-told .given .1) in omega (arith, ends-all (c41 .pre .0) (c41 .pre .1) (c41 .pre .2) (c34 .line-up .ensures) (c30 .line-up2 .ensures) d p .0)
+    let d = named _ _ _ _ _ (c23 .dialects .result) (c23 .dialects .ensures) (c17 .listed .given .1) _ (c41 .pre .2 .noted .named) in let p = passed-at _ _ _ _ _ _ _ _ _ _ (c11 .pass .result) (c11 .pass .ensures) (c .before .enum-told2 .given .1) in omega (arith, ends-all (c41 .pre .0) (c41 .pre .1) (c41 .pre .2) (c34 .line-up .ensures) (c30 .line-up2 .ensures) d p .0)
 
 slice-read-w : tie.Need-slice-read-w
 slice-read-w c =
@@ -75,7 +130,7 @@ slice-read-w c =
     let c31 = c24 .before .before .before .before .before .before .before in
     let c35 = c31 .before .before .before .before in
     let c42 = c35 .before .before .before .before .before .before .before in
-    let d = named _ _ _ _ _ (c24 .dialects .result) (c24 .dialects .ensures) (c18 .k .given .1) _ (c42 .pre .2 .noted .named) in let p = passed-at _ _ _ _ _ _ _ _ _ _ (c12 .pass .result) (c12 .pass .ensures) (c .before .before .enum-told .given .1) in omega (arith, ends-all (c42 .pre .0) (c42 .pre .1) (c42 .pre .2) (c35 .line-up .ensures) (c31 .line-up2 .ensures) d p .1)
+    let d = named _ _ _ _ _ (c24 .dialects .result) (c24 .dialects .ensures) (c18 .listed .given .1) _ (c42 .pre .2 .noted .named) in let p = passed-at _ _ _ _ _ _ _ _ _ _ (c12 .pass .result) (c12 .pass .ensures) (c .before .before .enum-told2 .given .1) in omega (arith, ends-all (c42 .pre .0) (c42 .pre .1) (c42 .pre .2) (c35 .line-up .ensures) (c31 .line-up2 .ensures) d p .1)
 
 start-requires : tie.Need-start-requires
 start-requires c κs = search needs
@@ -92,48 +147,7 @@ put-plain-requires c κs =
     let c34 = c27 .before .before .before .before .before .before .before in
     let c38 = c34 .before .before .before .before in
     let c45 = c38 .before .before .before .before .before .before .before in
-    let d = named _ _ _ _ _ (c27 .dialects .result) (c27 .dialects .ensures) (c21 .k .given .1) _ (c45 .pre .2 .noted .named) in let p = passed-at _ _ _ _ _ _ _ _ _ _ (c15 .pass .result) (c15 .pass .ensures) (c5 .enum-told .given .1) in put-asks (c45 .pre .0) (c45 .pre .1) (c45 .pre .2) (c38 .line-up .ensures) (c34 .line-up2 .ensures) d p (c .before .start .ensures)
-
-same-length : tie.Need-same-length
-same-length c = search needs
-
-same-length-2 : tie.Need-same-length-2
-same-length-2 c = search needs
-
-same-length-3 : tie.Need-same-length-3
-same-length-3 c = search needs
-
-same-length-4 : tie.Need-same-length-4
-same-length-4 c = search needs
-
-returns : tie.Need-returns
-returns c =
-    let c7 = c .before .before .before .before .before .before .before in
-    absurd (named-not _ _ _ _ _ (c7 .dialects .result) (c7 .dialects .ensures) (c .before .cause .given .1))
-
-same-length-5 : tie.Need-same-length-5
-same-length-5 c =
-    let c11 = c .before .before .before .before .before .before .before .before .before .before .before in
-    let c41 = c11 .before .before .before .before .before .before .before .before .before .before .before .before .before .before .before .before .before .before .before .before .before .before .before .before .before .before .before .before .before .before in
-    never (c41 .pre .2 .surveyed .gives) (passed-not _ _ _ _ _ _ _ _ _ _ (c11 .pass .result) (c11 .pass .ensures) (c .before .cause2 .given .1))
-
-same-length-6 : tie.Need-same-length-6
-same-length-6 c =
-    let c11 = c .before .before .before .before .before .before .before .before .before .before .before in
-    let c41 = c11 .before .before .before .before .before .before .before .before .before .before .before .before .before .before .before .before .before .before .before .before .before .before .before .before .before .before .before .before .before .before in
-    never (c41 .pre .2 .surveyed .gives) (passed-not _ _ _ _ _ _ _ _ _ _ (c11 .pass .result) (c11 .pass .ensures) (c .before .cause2 .given .1))
-
-same-length-7 : tie.Need-same-length-7
-same-length-7 c = search needs
-
-same-length-8 : tie.Need-same-length-8
-same-length-8 c = search needs
-
-returns-2 : tie.Need-returns-2
-returns-2 c =
-    let c11 = c .before .before .before .before .before .before .before .before .before .before .before in
-    let c41 = c11 .before .before .before .before .before .before .before .before .before .before .before .before .before .before .before .before .before .before .before .before .before .before .before .before .before .before .before .before .before .before in
-    never (c41 .pre .2 .surveyed .gives) (passed-not _ _ _ _ _ _ _ _ _ _ (c11 .pass .result) (c11 .pass .ensures) (c .before .cause2 .given .1))
+    let d = named _ _ _ _ _ (c27 .dialects .result) (c27 .dialects .ensures) (c21 .listed .given .1) _ (c45 .pre .2 .noted .named) in let p = passed-at _ _ _ _ _ _ _ _ _ _ (c15 .pass .result) (c15 .pass .ensures) (c5 .enum-told2 .given .1) in put-asks (c45 .pre .0) (c45 .pre .1) (c45 .pre .2) (c38 .line-up .ensures) (c34 .line-up2 .ensures) d p (c .before .start .ensures)
 
 same-length-9 : tie.Need-same-length-9
 same-length-9 c =
@@ -144,7 +158,7 @@ same-length-9 c =
     let c37 = c30 .before .before .before .before .before .before .before in
     let c41 = c37 .before .before .before .before in
     let c48 = c41 .before .before .before .before .before .before .before in
-    let d = named _ _ _ _ _ (c30 .dialects .result) (c30 .dialects .ensures) (c24 .k .given .1) _ (c48 .pre .2 .noted .named) in let p = passed-at _ _ _ _ _ _ _ _ _ _ (c18 .pass .result) (c18 .pass .ensures) (c8 .enum-told .given .1) in omega (arith, ends-all (c48 .pre .0) (c48 .pre .1) (c48 .pre .2) (c41 .line-up .ensures) (c37 .line-up2 .ensures) d p .0, c48 .pre .2 .sizes .words-all)
+    let d = named _ _ _ _ _ (c30 .dialects .result) (c30 .dialects .ensures) (c24 .listed .given .1) _ (c48 .pre .2 .noted .named) in let p = passed-at _ _ _ _ _ _ _ _ _ _ (c18 .pass .result) (c18 .pass .ensures) (c8 .enum-told2 .given .1) in omega (arith, ends-all (c48 .pre .0) (c48 .pre .1) (c48 .pre .2) (c41 .line-up .ensures) (c37 .line-up2 .ensures) d p .0, c48 .pre .2 .sizes .words-all)
 
 same-length-10 : tie.Need-same-length-10
 same-length-10 c =
@@ -155,7 +169,7 @@ same-length-10 c =
     let c37 = c30 .before .before .before .before .before .before .before in
     let c41 = c37 .before .before .before .before in
     let c48 = c41 .before .before .before .before .before .before .before in
-    let d = named _ _ _ _ _ (c30 .dialects .result) (c30 .dialects .ensures) (c24 .k .given .1) _ (c48 .pre .2 .noted .named) in let p = passed-at _ _ _ _ _ _ _ _ _ _ (c18 .pass .result) (c18 .pass .ensures) (c8 .enum-told .given .1) in omega (arith, ends-all (c48 .pre .0) (c48 .pre .1) (c48 .pre .2) (c41 .line-up .ensures) (c37 .line-up2 .ensures) d p .1, c48 .pre .2 .sizes .bytes-all)
+    let d = named _ _ _ _ _ (c30 .dialects .result) (c30 .dialects .ensures) (c24 .listed .given .1) _ (c48 .pre .2 .noted .named) in let p = passed-at _ _ _ _ _ _ _ _ _ _ (c18 .pass .result) (c18 .pass .ensures) (c8 .enum-told2 .given .1) in omega (arith, ends-all (c48 .pre .0) (c48 .pre .1) (c48 .pre .2) (c41 .line-up .ensures) (c37 .line-up2 .ensures) d p .1, c48 .pre .2 .sizes .bytes-all)
 
 same-length-11 : tie.Need-same-length-11
 same-length-11 c = search needs
@@ -174,7 +188,7 @@ returns-3 c =
     let c37 = c30 .before .before .before .before .before .before .before in
     let c41 = c37 .before .before .before .before in
     let c48 = c41 .before .before .before .before .before .before .before in
-    let d = named _ _ _ _ _ (c30 .dialects .result) (c30 .dialects .ensures) (c24 .k .given .1) _ (c48 .pre .2 .noted .named) in let p = passed-at _ _ _ _ _ _ _ _ _ _ (c18 .pass .result) (c18 .pass .ensures) (c8 .enum-told .given .1) in whole-read (c48 .pre .0) (c48 .pre .1) (c48 .pre .2) (c41 .line-up .ensures) (c37 .line-up2 .ensures) d p (c4 .start .ensures) (c3 .flag .ensures) (c .before .before .put-plain .ensures)
+    let d = named _ _ _ _ _ (c30 .dialects .result) (c30 .dialects .ensures) (c24 .listed .given .1) _ (c48 .pre .2 .noted .named) in let p = passed-at _ _ _ _ _ _ _ _ _ _ (c18 .pass .result) (c18 .pass .ensures) (c8 .enum-told2 .given .1) in whole-read (c48 .pre .0) (c48 .pre .1) (c48 .pre .2) (c41 .line-up .ensures) (c37 .line-up2 .ensures) d p (c4 .start .ensures) (c3 .flag .ensures) (c .before .before .put-plain .ensures)
 
 pub store-spec : {M : Type 1} → statement M
 store-spec =
@@ -185,28 +199,32 @@ store-spec =
     slice-read-m
     slice-read-y
     dialects-requires
-    enum-known-cause
-    enum-known-k
-    slice-write-words
-    slice-write-bytes
-    pass-requires
-    enum-known-cause-2
+    enum-known-listed
     enum-told
-    slice-read-i
-    slice-read-w
-    start-requires
-    flag-requires
-    put-plain-requires
+    cause-requires
+    place-requires
     same-length
     same-length-2
     same-length-3
     same-length-4
     returns
+    slice-write-words
+    slice-write-bytes
+    pass-requires
+    enum-told-2
+    enum-told-3
+    cause-requires-2
+    place-requires-2
     same-length-5
     same-length-6
     same-length-7
     same-length-8
     returns-2
+    slice-read-i
+    slice-read-w
+    start-requires
+    flag-requires
+    put-plain-requires
     same-length-9
     same-length-10
     same-length-11
