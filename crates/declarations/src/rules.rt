@@ -1,6 +1,5 @@
 // Rules, names and references: `parse_rule`, `parse_token_reference`.
 use error::Cause;
-use parser::expressions;
 use parser::parts;
 use parser::parts::Expressed;
 use parser::parts::Headed;
@@ -52,7 +51,7 @@ pub fn parse_rule(
     let Headed::Done(v, m, y, count, params) = head else {
         return Parsed::Refused(head.cause(), head.place());
     };
-    let body = expressions::braced(source, LEVELS, v, records, m, texts, y);
+    let body = parser::braced(source, LEVELS, v, records, m, texts, y);
     let Expressed::Done(w, k, z, _, _) = body else {
         return Parsed::Refused(body.cause(), body.place());
     };
@@ -84,7 +83,7 @@ pub fn parse_token_reference(
     ensures { λ r. ⌜ Parses (parseTokenReference (causeNumber cause) (stream (now (source .entry)) token)) (nodesOf referenceBranch) (now (source .entry)) token
         (lent n (now (records .entry)) x (now (texts .entry))) (now (records .exit)) (now (texts .exit)) r ⌝ }
 {
-    let inner = expressions::parse_inner(source, LEVELS, token, records, n, texts, x);
+    let inner = parser::parse_expression_inner(source, LEVELS, token, records, n, texts, x);
     let Expressed::Done(u, m, y, p, shape) = inner else {
         return Parsed::Refused(inner.cause(), inner.place());
     };

@@ -3,7 +3,6 @@ use crate::blocks;
 use crate::blocks::Block;
 use declarations::externals;
 use error::Cause;
-use parser::expressions;
 use parser::parts::Expressed;
 use parser::props::Listed;
 use parser::props::Parsed;
@@ -253,7 +252,7 @@ pub fn parse_external_specializer(
     let Arrived::At(u) = arrived else {
         return Parsed::Refused(arrived.cause(), arrived.place());
     };
-    let inside = expressions::braced(source, LEVELS, u, records, n, texts, x);
+    let inside = parser::braced(source, LEVELS, u, records, n, texts, x);
     let Expressed::Done(v, m, y, _, _) = inside else {
         return Parsed::Refused(inside.cause(), inside.place());
     };
@@ -328,7 +327,7 @@ pub fn parse_skip(
     let Arrived::At(u) = arrived else {
         return Declared::Refused(arrived.cause(), arrived.place());
     };
-    let inside = expressions::braced(source, LEVELS, u, records, n, texts, x);
+    let inside = parser::braced(source, LEVELS, u, records, n, texts, x);
     let Expressed::Done(v, m, y, p, _) = inside else {
         return Declared::Refused(inside.cause(), inside.place());
     };

@@ -7,8 +7,8 @@ use borrow.Author.Needs.{needs}
 use Rattle.declarations.proofs.rules.parse_token_reference.Statement.{statement}
 use Rattle.declarations.proofs.rules.parse_token_reference.Tie as tie
 
-parse-inner-requires : tie.Need-parse-inner-requires
-parse-inner-requires c κs = search needs
+parse-expression-inner-requires : tie.Need-parse-expression-inner-requires
+parse-expression-inner-requires c κs = search needs
 
 enum-known-inner : tie.Need-enum-known-inner
 enum-known-inner c = search needs
@@ -31,7 +31,7 @@ same-length-2 c = search needs
 returns : tie.Need-returns
 returns c =
     let c8 = c .before .before .before .before .before .before .before .before in
-    reference-refused _ _ (expressed-not _ _ _ _ _ _ _ _ _ (c8 .parse-inner .ensures) (expressed-told (c .before .before .enum-told .given .1) (c .before .cause .ensures) (c .place .ensures)))
+    reference-refused _ _ (expressed-not _ _ _ _ _ _ _ _ _ (c8 .parse-expression-inner .ensures) (expressed-told (c .before .before .enum-told .given .1) (c .before .cause .ensures) (c .place .ensures)))
 
 enum-told-2 : tie.Need-enum-told-2
 enum-told-2 c = search needs
@@ -58,7 +58,7 @@ returns-2 : tie.Need-returns-2
 returns-2 c =
     let c3 = c .before .before .before in
     let c9 = c3 .before .before .before .before .before .before in
-    reference-name _ (expressed _ _ _ _ _ _ _ _ _ (c9 .parse-inner .ensures) (c3 .inner .given .1)) (c .enum-told2 .given .1)
+    reference-name _ (expressed _ _ _ _ _ _ _ _ _ (c9 .parse-expression-inner .ensures) (c3 .inner .given .1)) (c .enum-told2 .given .1)
 
 same-length-5 : tie.Need-same-length-5
 same-length-5 c = search needs
@@ -70,7 +70,7 @@ returns-3 : tie.Need-returns-3
 returns-3 c =
     let c3 = c .before .before .before in
     let c9 = c3 .before .before .before .before .before .before in
-    reference-literal _ (expressed _ _ _ _ _ _ _ _ _ (c9 .parse-inner .ensures) (c3 .inner .given .1)) (c .enum-told3 .given .1)
+    reference-literal _ (expressed _ _ _ _ _ _ _ _ _ (c9 .parse-expression-inner .ensures) (c3 .inner .given .1)) (c .enum-told3 .given .1)
 
 same-length-7 : tie.Need-same-length-7
 same-length-7 c = search needs
@@ -82,7 +82,7 @@ returns-4 : tie.Need-returns-4
 returns-4 c =
     let c3 = c .before .before .before in
     let c9 = c3 .before .before .before .before .before .before in
-    reference-repeat _ (expressed _ _ _ _ _ _ _ _ _ (c9 .parse-inner .ensures) (c3 .inner .given .1)) (c .enum-told4 .given .1)
+    reference-repeat _ (expressed _ _ _ _ _ _ _ _ _ (c9 .parse-expression-inner .ensures) (c3 .inner .given .1)) (c .enum-told4 .given .1)
 
 same-length-9 : tie.Need-same-length-9
 same-length-9 c = search needs
@@ -94,7 +94,7 @@ returns-5 : tie.Need-returns-5
 returns-5 c =
     let c3 = c .before .before .before in
     let c9 = c3 .before .before .before .before .before .before in
-    reference-blank _ (expressed _ _ _ _ _ _ _ _ _ (c9 .parse-inner .ensures) (c3 .inner .given .1)) (c .enum-told5 .given .1)
+    reference-blank _ (expressed _ _ _ _ _ _ _ _ _ (c9 .parse-expression-inner .ensures) (c3 .inner .given .1)) (c .enum-told5 .given .1)
 
 same-length-11 : tie.Need-same-length-11
 same-length-11 c = search needs
@@ -106,13 +106,13 @@ returns-6 : tie.Need-returns-6
 returns-6 c =
     let c3 = c .before .before .before in
     let c9 = c3 .before .before .before .before .before .before in
-    reference-other _ (expressed _ _ _ _ _ _ _ _ _ (c9 .parse-inner .ensures) (c3 .inner .given .1)) (c .enum-told6 .given .1)
+    reference-other _ (expressed _ _ _ _ _ _ _ _ _ (c9 .parse-expression-inner .ensures) (c3 .inner .given .1)) (c .enum-told6 .given .1)
 
 pub parse-token-reference-spec : {M : Type 1} → statement M
 parse-token-reference-spec =
     tie.close
     (tie.spec
-    parse-inner-requires
+    parse-expression-inner-requires
     enum-known-inner
     enum-told
     cause-requires

@@ -10,10 +10,10 @@ use Rattle.parser.specs.Storing.{lent}
 use Rattle.parser.proofs.Ready.{ready-on}
 use Rattle.parser.proofs.Took.{item-marker-read, item-read, item-over, item-not}
 use Rattle.parser.proofs.Itemizing.{Itemizing, itemizing, itemizing-marker, itemizing-expression, itemizing-over, itemizing-refused, itemizing-small}
-use Rattle.parser.proofs.expressions.+arguments+arms+braced+inline_rule+inner_at+inner_mark+inner_name+item+items+list+named+parens+parse_choice+parse_inner+parse_sequence+parse_suffix+parts+reference+second+specialize.Proof.Falls.{falls-on, items-at, item-below}
-use Rattle.parser.proofs.expressions.items.Reads as items
-use Rattle.parser.proofs.expressions.+arguments+arms+braced+inline_rule+inner_at+inner_mark+inner_name+item+items+list+named+parens+parse_choice+parse_inner+parse_sequence+parse_suffix+parts+reference+second+specialize.Lts-items as lts
-use Rattle.parser.proofs.expressions.item.Reads as item
+use Rattle.parser.proofs.+apply+args+arms+braced+inline+item+items+last+list+mark+name+named+pair+parens+parse_expression_choice+parse_expression_inner+parse_expression_sequence+parse_expression_suffix+special+word.Proof.Falls.{falls-on, items-at, item-below}
+use Rattle.parser.proofs.items.Reads as items
+use Rattle.parser.proofs.+apply+args+arms+braced+inline+item+items+last+list+mark+name+named+pair+parens+parse_expression_choice+parse_expression_inner+parse_expression_sequence+parse_expression_suffix+special+word.Lts-items as lts
+use Rattle.parser.proofs.item.Reads as item
 
 abbrev Inv-loop : lts.InvT-loop
 Inv-loop source left records₀ n texts₀ x t₀ m₀ y₀ markers₀ expressions₀ p₀ shape₀ records texts t m y markers expressions p shape = Itemizing (choiceAt left) source t₀ (lent n records₀ x texts₀) t (lent m records y texts) markers expressions p shape

@@ -15,10 +15,10 @@ use Rattle.parser.proofs.Openings.{item-onward, list-closed, list-refus
 use Rattle.parser.proofs.Took.{expressed, expressed-not}
 use Rattle.parser.proofs.InnerLaws.{argument-ready, argument-refused, argument-more}
 use Rattle.parser.proofs.Told.{expressed-told}
-use Rattle.parser.proofs.expressions.+arguments+arms+braced+inline_rule+inner_at+inner_mark+inner_name+item+items+list+named+parens+parse_choice+parse_inner+parse_sequence+parse_suffix+parts+reference+second+specialize.Proof.Falls.{falls-on, list-at, parse-choice-below}
-use Rattle.parser.proofs.expressions.list.Reads as list
-use Rattle.parser.proofs.expressions.+arguments+arms+braced+inline_rule+inner_at+inner_mark+inner_name+item+items+list+named+parens+parse_choice+parse_inner+parse_sequence+parse_suffix+parts+reference+second+specialize.Lts-list as lts
-use Rattle.parser.proofs.expressions.parse_choice.Reads as parse-choice
+use Rattle.parser.proofs.+apply+args+arms+braced+inline+item+items+last+list+mark+name+named+pair+parens+parse_expression_choice+parse_expression_inner+parse_expression_sequence+parse_expression_suffix+special+word.Proof.Falls.{falls-on, list-at, parse-expression-choice-below}
+use Rattle.parser.proofs.list.Reads as list
+use Rattle.parser.proofs.+apply+args+arms+braced+inline+item+items+last+list+mark+name+named+pair+parens+parse_expression_choice+parse_expression_inner+parse_expression_sequence+parse_expression_suffix+special+word.Lts-list as lts
+use Rattle.parser.proofs.parse_expression_choice.Reads as parse-expression-choice
 use Rattle.parser.proofs.props.opening.Reads as opening-reads
 use Rattle.parser.proofs.parts.Expressed.cause.Reads as expressed-cause-reads
 use Rattle.parser.proofs.parts.Expressed.place.Reads as expressed-place-reads
@@ -31,7 +31,7 @@ abbrev μ-loop : lts.MeasureT-loop
 
 module _ (t : ℕ) where
   abbrev claims : lts.Claims
-  claims = (opening-reads.Asked, opening-reads.Learnt, parse-choice-below t, parse-choice.Post, expressed-cause-reads.Asked, expressed-cause-reads.Learnt, expressed-place-reads.Asked, expressed-place-reads.Learnt)
+  claims = (opening-reads.Asked, opening-reads.Learnt, parse-expression-choice-below t, parse-expression-choice.Post, expressed-cause-reads.Asked, expressed-cause-reads.Learnt, expressed-place-reads.Asked, expressed-place-reads.Learnt)
 
   loop-holds : lts.Need-loop-holds claims (list-at t) list.Post Inv-loop μ-loop
   loop-holds c = listing-start _ _ _ _ _ _ (c .before .before .before .pre .1 .lies)
@@ -74,8 +74,8 @@ module _ (t : ℕ) where
   enum-known-u-2 : lts.Need-enum-known-u-2 claims (list-at t) list.Post Inv-loop μ-loop
   enum-known-u-2 c = search needs
 
-  parse-choice-requires : lts.Need-parse-choice-requires claims (list-at t) list.Post Inv-loop μ-loop
-  parse-choice-requires c κs =
+  parse-expression-choice-requires : lts.Need-parse-expression-choice-requires claims (list-at t) list.Post Inv-loop μ-loop
+  parse-expression-choice-requires c κs =
       let c3 = c .before .before .before in
       let c5 = c3 .before .before in
       let c6 = c5 .before in
@@ -107,7 +107,7 @@ module _ (t : ℕ) where
       let c14 = c12 .before .before in
       let c15 = c14 .before in
       let c19 = c15 .before .before .before .before in
-      argument-refused (c19 .args .left) (c15 .loop .inv) _ (c14 .opening .ensures) (c12 .u2 .given .1) (expressed-not _ _ _ _ _ _ _ _ _ (c8 .parse-choice .ensures) (expressed-told (c .before .before .enum-told .given .1) (c .before .cause2 .ensures) (c .place .ensures)))
+      argument-refused (c19 .args .left) (c15 .loop .inv) _ (c14 .opening .ensures) (c12 .u2 .given .1) (expressed-not _ _ _ _ _ _ _ _ _ (c8 .parse-expression-choice .ensures) (expressed-told (c .before .before .enum-told .given .1) (c .before .cause2 .ensures) (c .place .ensures)))
 
   add-count : lts.Need-add-count claims (list-at t) list.Post Inv-loop μ-loop
   add-count c =
@@ -122,7 +122,7 @@ module _ (t : ℕ) where
       let c13 = c11 .before .before in
       let c14 = c13 .before in
       let c18 = c14 .before .before .before .before in
-      argument-more (c18 .args .left) (c14 .loop .inv) _ (c13 .opening .ensures) (c11 .u2 .given .1) (expressed _ _ _ _ _ _ _ _ _ (c7 .parse-choice .ensures) (c .before .argument .given .1)) .1
+      argument-more (c18 .args .left) (c14 .loop .inv) _ (c13 .opening .ensures) (c11 .u2 .given .1) (expressed _ _ _ _ _ _ _ _ _ (c7 .parse-expression-choice .ensures) (c .before .argument .given .1)) .1
 
   loop-again : lts.Need-loop-again claims (list-at t) list.Post Inv-loop μ-loop
   loop-again c =
@@ -131,7 +131,7 @@ module _ (t : ℕ) where
       let c13 = c11 .before .before in
       let c14 = c13 .before in
       let c18 = c14 .before .before .before .before in
-      argument-more (c18 .args .left) (c14 .loop .inv) _ (c13 .opening .ensures) (c11 .u2 .given .1) (expressed _ _ _ _ _ _ _ _ _ (c7 .parse-choice .ensures) (c .before .argument .given .1)) .0
+      argument-more (c18 .args .left) (c14 .loop .inv) _ (c13 .opening .ensures) (c11 .u2 .given .1) (expressed _ _ _ _ _ _ _ _ _ (c7 .parse-expression-choice .ensures) (c .before .argument .given .1)) .0
 
   pub met : {M : Type 1} → lts.Closed claims (list-at t) list.Post M
-  met = lts.spec claims (list-at t) list.Post Inv-loop μ-loop loop-holds opening-requires enum-known-u same-length same-length-2 returns enum-known-cause same-length-3 same-length-4 returns-2 enum-known-u-2 parse-choice-requires enum-known-argument enum-told cause-requires place-requires same-length-5 same-length-6 returns-3 add-count loop-less loop-again
+  met = lts.spec claims (list-at t) list.Post Inv-loop μ-loop loop-holds opening-requires enum-known-u same-length same-length-2 returns enum-known-cause same-length-3 same-length-4 returns-2 enum-known-u-2 parse-expression-choice-requires enum-known-argument enum-told cause-requires place-requires same-length-5 same-length-6 returns-3 add-count loop-less loop-again

@@ -13,10 +13,10 @@ use Rattle.parser.proofs.Shown.{yields-within, yields-least, shown-empt
 use Rattle.parser.proofs.PartRules.{nodes-empty}
 use Rattle.parser.proofs.Yielded.{ready-start, yields-over, no-texts}
 use Rattle.tokens.proofs.Told.{arrived-told}
-use Rattle.parser.proofs.expressions.+arguments+arms+braced+inline_rule+inner_at+inner_mark+inner_name+item+items+list+named+parens+parse_choice+parse_inner+parse_sequence+parse_suffix+parts+reference+second+specialize.Proof.Falls.{parens-at, parse-choice-below}
-use Rattle.parser.proofs.expressions.parens.Reads as parens
-use Rattle.parser.proofs.expressions.+arguments+arms+braced+inline_rule+inner_at+inner_mark+inner_name+item+items+list+named+parens+parse_choice+parse_inner+parse_sequence+parse_suffix+parts+reference+second+specialize.Lts-parens as lts
-use Rattle.parser.proofs.expressions.parse_choice.Reads as parse-choice
+use Rattle.parser.proofs.+apply+args+arms+braced+inline+item+items+last+list+mark+name+named+pair+parens+parse_expression_choice+parse_expression_inner+parse_expression_sequence+parse_expression_suffix+special+word.Proof.Falls.{parens-at, parse-expression-choice-below}
+use Rattle.parser.proofs.parens.Reads as parens
+use Rattle.parser.proofs.+apply+args+arms+braced+inline+item+items+last+list+mark+name+named+pair+parens+parse_expression_choice+parse_expression_inner+parse_expression_sequence+parse_expression_suffix+special+word.Lts-parens as lts
+use Rattle.parser.proofs.parse_expression_choice.Reads as parse-expression-choice
 use Rattle.tokens.proofs.eat_punctuation.Reads as eat-punctuation-reads
 use Rattle.tokens.proofs.expect_punctuation.Reads as expect-punctuation-reads
 use Rattle.parser.proofs.store.put_plain.Reads as put-plain-reads
@@ -26,7 +26,7 @@ use Rattle.tokens.proofs.Arrived.place.Reads as arrived-place-reads
 
 module _ (t : ℕ) where
   abbrev claims : lts.Claims
-  claims = (eat-punctuation-reads.Asked, eat-punctuation-reads.Learnt, start-reads.Asked, start-reads.Learnt, put-plain-reads.Asked, put-plain-reads.Learnt, parse-choice-below t, parse-choice.Post, expect-punctuation-reads.Asked, expect-punctuation-reads.Learnt, arrived-cause-reads.Asked, arrived-cause-reads.Learnt, arrived-place-reads.Asked, arrived-place-reads.Learnt)
+  claims = (eat-punctuation-reads.Asked, eat-punctuation-reads.Learnt, start-reads.Asked, start-reads.Learnt, put-plain-reads.Asked, put-plain-reads.Learnt, parse-expression-choice-below t, parse-expression-choice.Post, expect-punctuation-reads.Asked, expect-punctuation-reads.Learnt, arrived-cause-reads.Asked, arrived-cause-reads.Learnt, arrived-place-reads.Asked, arrived-place-reads.Learnt)
 
   eat-punctuation-requires : lts.Need-eat-punctuation-requires claims (parens-at t) parens.Post
   eat-punctuation-requires c κs = search needs
@@ -51,8 +51,8 @@ module _ (t : ℕ) where
   enum-told : lts.Need-enum-told claims (parens-at t) parens.Post
   enum-told c = search needs
 
-  parse-choice-requires : lts.Need-parse-choice-requires claims (parens-at t) parens.Post
-  parse-choice-requires c κs =
+  parse-expression-choice-requires : lts.Need-parse-expression-choice-requires claims (parens-at t) parens.Post
+  parse-expression-choice-requires c κs =
       let c8 = c .before .before .before .before .before .before .before .before in
       (omega (arith, c8 .pre .0), ready-step (c8 .pre .1 .0) (c8 .pre .1 .1))
 
@@ -73,7 +73,7 @@ module _ (t : ℕ) where
       let c6 = c .before .before .before .before .before .before in
       let c9 = c6 .before .before .before in
       let c11 = c9 .before .before in
-      rw (c .enum-told2 .given .1) (paren-below _ _ _ (eat-no _ ")" _ _ (c11 .eat-punctuation .ensures) (c9 .enum-told .given .1)) (expressed-not _ _ _ _ _ _ _ _ _ (c6 .parse-choice .ensures) (c .enum-told2 .given .1)))
+      rw (c .enum-told2 .given .1) (paren-below _ _ _ (eat-no _ ")" _ _ (c11 .eat-punctuation .ensures) (c9 .enum-told .given .1)) (expressed-not _ _ _ _ _ _ _ _ _ (c6 .parse-expression-choice .ensures) (c .enum-told2 .given .1)))
 
   expect-punctuation-requires : lts.Need-expect-punctuation-requires claims (parens-at t) parens.Post
   expect-punctuation-requires c κs = search needs
@@ -103,7 +103,7 @@ module _ (t : ℕ) where
       let c12 = c6 .before .before .before .before .before .before in
       let c15 = c12 .before .before .before in
       let c17 = c15 .before .before in
-      paren-close _ _ _ (eat-no _ ")" _ _ (c17 .eat-punctuation .ensures) (c15 .enum-told .given .1)) (expressed _ _ _ _ _ _ _ _ _ (c12 .parse-choice .ensures) (c6 .inside .given .1) .gives) (expect-not _ ")" _ _ (c4 .expect-punctuation .ensures) (arrived-told (c .before .before .enum-told3 .given .1) (c .before .cause2 .ensures) (c .place .ensures)))
+      paren-close _ _ _ (eat-no _ ")" _ _ (c17 .eat-punctuation .ensures) (c15 .enum-told .given .1)) (expressed _ _ _ _ _ _ _ _ _ (c12 .parse-expression-choice .ensures) (c6 .inside .given .1) .gives) (expect-not _ ")" _ _ (c4 .expect-punctuation .ensures) (arrived-told (c .before .before .enum-told3 .given .1) (c .before .cause2 .ensures) (c .place .ensures)))
 
   returns-3 : lts.Need-returns-3 claims (parens-at t) parens.Post
   returns-3 c = paren-refused _ _ _ (eat-not _ ")" _ _ (c .before .before .before .eat-punctuation .ensures) (c .before .cause .given .1))
@@ -141,9 +141,9 @@ module _ (t : ℕ) where
       let c14 = c11 .before .before .before in
       let c16 = c14 .before .before in
       let c20 = c16 .before .before .before .before in
-      let g = expressed _ _ _ _ _ _ _ _ _ (c11 .parse-choice .ensures) (c5 .inside .given .1) in
+      let g = expressed _ _ _ _ _ _ _ _ _ (c11 .parse-expression-choice .ensures) (c5 .inside .given .1) in
       let q = expect-onward _ ")" _ _ _ (omega arith) (g .onward .lies) (c3 .expect-punctuation .ensures) (c .before .closed .given .1) in
       yields-least 1 (yields-within g (c20 .pre .1 .1) q (paren-done _ _ _ (eat-no _ ")" _ _ (c16 .eat-punctuation .ensures) (c14 .enum-told .given .1)) (g .gives) (expect-at _ ")" _ _ (c3 .expect-punctuation .ensures) (c .before .closed .given .1))) (omega arith)) (omega arith)
 
   pub met : {M : Type 1} → lts.Closed claims (parens-at t) parens.Post M
-  met = lts.spec claims (parens-at t) parens.Post eat-punctuation-requires enum-known-cause enum-known-u start-requires put-plain-requires start-requires-2 enum-told parse-choice-requires enum-known-inside enum-told-2 same-length same-length-2 returns expect-punctuation-requires enum-known-closed enum-told-3 cause-requires place-requires same-length-3 same-length-4 returns-2 returns-3 same-length-5 returns-4 same-length-6 same-length-7 returns-5
+  met = lts.spec claims (parens-at t) parens.Post eat-punctuation-requires enum-known-cause enum-known-u start-requires put-plain-requires start-requires-2 enum-told parse-expression-choice-requires enum-known-inside enum-told-2 same-length same-length-2 returns expect-punctuation-requires enum-known-closed enum-told-3 cause-requires place-requires same-length-3 same-length-4 returns-2 returns-3 same-length-5 returns-4 same-length-6 same-length-7 returns-5

@@ -7,10 +7,10 @@ use Rattle.parser.proofs.Took.{expressed, expressed-not}
 use Rattle.parser.proofs.SequenceRules.{item-marker, item-end, item-refused, item-some}
 use Rattle.parser.proofs.Marks.{marked-some, marked-none, marker-token}
 use Rattle.parser.proofs.Told.{expressed-told}
-use Rattle.parser.proofs.expressions.+arguments+arms+braced+inline_rule+inner_at+inner_mark+inner_name+item+items+list+named+parens+parse_choice+parse_inner+parse_sequence+parse_suffix+parts+reference+second+specialize.Proof.Falls.{item-at, parse-suffix-below}
-use Rattle.parser.proofs.expressions.item.Reads as item
-use Rattle.parser.proofs.expressions.+arguments+arms+braced+inline_rule+inner_at+inner_mark+inner_name+item+items+list+named+parens+parse_choice+parse_inner+parse_sequence+parse_suffix+parts+reference+second+specialize.Lts-item as lts
-use Rattle.parser.proofs.expressions.parse_suffix.Reads as parse-suffix
+use Rattle.parser.proofs.+apply+args+arms+braced+inline+item+items+last+list+mark+name+named+pair+parens+parse_expression_choice+parse_expression_inner+parse_expression_sequence+parse_expression_suffix+special+word.Proof.Falls.{item-at, parse-expression-suffix-below}
+use Rattle.parser.proofs.item.Reads as item
+use Rattle.parser.proofs.+apply+args+arms+braced+inline+item+items+last+list+mark+name+named+pair+parens+parse_expression_choice+parse_expression_inner+parse_expression_sequence+parse_expression_suffix+special+word.Lts-item as lts
+use Rattle.parser.proofs.parse_expression_suffix.Reads as parse-expression-suffix
 use Rattle.parser.proofs.parts.ends_sequence.Reads as ends-sequence-reads
 use Rattle.tokens.proofs.mark.Reads as mark-reads
 use Rattle.parser.proofs.parts.marker_kind.Reads as marker-kind-reads
@@ -20,7 +20,7 @@ use Rattle.parser.proofs.parts.Expressed.place.Reads as expressed-place
 
 module _ (t : ℕ) where
   abbrev claims : lts.Claims
-  claims = (mark-reads.Asked, mark-reads.Learnt, marker-kind-reads.Asked, marker-kind-reads.Learnt, parse-marker-reads.Asked, parse-marker-reads.Learnt, ends-sequence-reads.Asked, ends-sequence-reads.Learnt, parse-suffix-below t, parse-suffix.Post, expressed-cause-reads.Asked, expressed-cause-reads.Learnt, expressed-place-reads.Asked, expressed-place-reads.Learnt)
+  claims = (mark-reads.Asked, mark-reads.Learnt, marker-kind-reads.Asked, marker-kind-reads.Learnt, parse-marker-reads.Asked, parse-marker-reads.Learnt, ends-sequence-reads.Asked, ends-sequence-reads.Learnt, parse-expression-suffix-below t, parse-expression-suffix.Post, expressed-cause-reads.Asked, expressed-cause-reads.Learnt, expressed-place-reads.Asked, expressed-place-reads.Learnt)
 
   mark-requires : lts.Need-mark-requires claims (item-at t) item.Post
   mark-requires c κs = search needs
@@ -51,8 +51,8 @@ module _ (t : ℕ) where
       let c5 = c4 .before in
       record { gives = item-end _ _ _ _ (rw (c5 .mark .ensures) at (marked-none _ (c4 .marker-kind .ensures) (c .before .before .enum-told .given .1))) (sym (c .before .ends-sequence .ensures) ∙ c .if1 .taken); same-words = refl; same-texts = refl }
 
-  parse-suffix-requires : lts.Need-parse-suffix-requires claims (item-at t) item.Post
-  parse-suffix-requires c κs =
+  parse-expression-suffix-requires : lts.Need-parse-expression-suffix-requires claims (item-at t) item.Post
+  parse-expression-suffix-requires c κs =
       let c11 = c .before .before .before .before .before .before .before .before .before .before .before in
       (omega (arith, c11 .pre .0), c11 .pre .1)
 
@@ -82,7 +82,7 @@ module _ (t : ℕ) where
       let c13 = c12 .before in
       let c15 = c13 .before .before in
       let c16 = c15 .before in
-      item-refused _ _ _ _ (rw (c16 .mark .ensures) at (marked-none _ (c15 .marker-kind .ensures) (c13 .enum-told .given .1))) (sym (c12 .ends-sequence .ensures) ∙ c11 .if1 .left) (expressed-not _ _ _ _ _ _ _ _ _ (c8 .parse-suffix .ensures) (expressed-told (c .before .before .enum-told2 .given .1) (c .before .cause .ensures) (c .place .ensures)))
+      item-refused _ _ _ _ (rw (c16 .mark .ensures) at (marked-none _ (c15 .marker-kind .ensures) (c13 .enum-told .given .1))) (sym (c12 .ends-sequence .ensures) ∙ c11 .if1 .left) (expressed-not _ _ _ _ _ _ _ _ _ (c8 .parse-expression-suffix .ensures) (expressed-told (c .before .before .enum-told2 .given .1) (c .before .cause .ensures) (c .place .ensures)))
 
   same-length-3 : lts.Need-same-length-3 claims (item-at t) item.Post
   same-length-3 c = search needs
@@ -112,8 +112,8 @@ module _ (t : ℕ) where
       let c12 = c11 .before in
       let c14 = c12 .before .before in
       let c15 = c14 .before in
-      let g = expressed _ _ _ _ _ _ _ _ _ (c7 .parse-suffix .ensures) (c .before .suffixed .given .1) in
+      let g = expressed _ _ _ _ _ _ _ _ _ (c7 .parse-expression-suffix .ensures) (c .before .suffixed .given .1) in
       record { tree = g .tree; gives = item-some _ _ _ _ (rw (c15 .mark .ensures) at (marked-none _ (c14 .marker-kind .ensures) (c12 .enum-told .given .1))) (sym (c11 .ends-sequence .ensures) ∙ c10 .if1 .left) (g .gives); onward = g .onward; lays = g .lays; shown = g .shown }
 
   pub met : {M : Type 1} → lts.Closed claims (item-at t) item.Post M
-  met = lts.spec claims (item-at t) item.Post mark-requires marker-kind-requires enum-known-kind parse-marker-requires enum-told ends-sequence-requires returns parse-suffix-requires enum-known-suffixed enum-told-2 cause-requires place-requires same-length same-length-2 returns-2 same-length-3 same-length-4 returns-3 same-length-5 same-length-6 returns-4
+  met = lts.spec claims (item-at t) item.Post mark-requires marker-kind-requires enum-known-kind parse-marker-requires enum-told ends-sequence-requires returns parse-expression-suffix-requires enum-known-suffixed enum-told-2 cause-requires place-requires same-length same-length-2 returns-2 same-length-3 same-length-4 returns-3 same-length-5 same-length-6 returns-4

@@ -12,10 +12,10 @@ use Rattle.parser.proofs.Took.{eat-yes, eat-no, eat-not, expressed, exp
 use Rattle.parser.proofs.SequenceRules.{arm-refused, arm-none, arm-sequence}
 use Rattle.parser.proofs.Itemizing.{Arming, arming, arming-more, arming-over, arming-refused, arming-small, arm-ready}
 use Rattle.parser.proofs.Told.{expressed-told}
-use Rattle.parser.proofs.expressions.+arguments+arms+braced+inline_rule+inner_at+inner_mark+inner_name+item+items+list+named+parens+parse_choice+parse_inner+parse_sequence+parse_suffix+parts+reference+second+specialize.Proof.Falls.{falls-past, arms-at, parse-sequence-below}
-use Rattle.parser.proofs.expressions.arms.Reads as arms
-use Rattle.parser.proofs.expressions.+arguments+arms+braced+inline_rule+inner_at+inner_mark+inner_name+item+items+list+named+parens+parse_choice+parse_inner+parse_sequence+parse_suffix+parts+reference+second+specialize.Lts-arms as lts
-use Rattle.parser.proofs.expressions.parse_sequence.Reads as parse-sequence
+use Rattle.parser.proofs.+apply+args+arms+braced+inline+item+items+last+list+mark+name+named+pair+parens+parse_expression_choice+parse_expression_inner+parse_expression_sequence+parse_expression_suffix+special+word.Proof.Falls.{falls-past, arms-at, parse-expression-sequence-below}
+use Rattle.parser.proofs.arms.Reads as arms
+use Rattle.parser.proofs.+apply+args+arms+braced+inline+item+items+last+list+mark+name+named+pair+parens+parse_expression_choice+parse_expression_inner+parse_expression_sequence+parse_expression_suffix+special+word.Lts-arms as lts
+use Rattle.parser.proofs.parse_expression_sequence.Reads as parse-expression-sequence
 use Rattle.tokens.proofs.eat_punctuation.Reads as eat-punctuation-reads
 use Rattle.parser.proofs.parts.first_empty.Reads as first-empty-reads
 use Rattle.parser.proofs.parts.Expressed.cause.Reads as expressed-cause-reads
@@ -29,7 +29,7 @@ abbrev μ-loop : lts.MeasureT-loop
 
 module _ (t : ℕ) where
   abbrev claims : lts.Claims
-  claims = (eat-punctuation-reads.Asked, eat-punctuation-reads.Learnt, parse-sequence-below t, parse-sequence.Post, expressed-cause-reads.Asked, expressed-cause-reads.Learnt, expressed-place-reads.Asked, expressed-place-reads.Learnt, first-empty-reads.Asked, first-empty-reads.Learnt)
+  claims = (eat-punctuation-reads.Asked, eat-punctuation-reads.Learnt, parse-expression-sequence-below t, parse-expression-sequence.Post, expressed-cause-reads.Asked, expressed-cause-reads.Learnt, expressed-place-reads.Asked, expressed-place-reads.Learnt, first-empty-reads.Asked, first-empty-reads.Learnt)
 
   loop-holds : lts.Need-loop-holds claims (arms-at t) arms.Post Inv-loop μ-loop
   loop-holds c = arming _ _ _ _ (c .before .before .before .pre .1 .lies)
@@ -64,8 +64,8 @@ module _ (t : ℕ) where
   enum-known-u : lts.Need-enum-known-u claims (arms-at t) arms.Post Inv-loop μ-loop
   enum-known-u c = search needs
 
-  parse-sequence-requires : lts.Need-parse-sequence-requires claims (arms-at t) arms.Post Inv-loop μ-loop
-  parse-sequence-requires c κs =
+  parse-expression-sequence-requires : lts.Need-parse-expression-sequence-requires claims (arms-at t) arms.Post Inv-loop μ-loop
+  parse-expression-sequence-requires c κs =
       let c3 = c .before .before .before in
       let c5 = c3 .before .before in
       let c6 = c5 .before in
@@ -100,7 +100,7 @@ module _ (t : ℕ) where
       let c12 = c8 .before .before .before .before in
       let c14 = c12 .before .before in
       let c15 = c14 .before in
-      arming-refused (c15 .loop .inv) (arm-sequence _ _ _ (eat-yes _ "|" _ _ (c14 .eat-punctuation .ensures) (c12 .u .given .1)) (expressed-not _ _ _ _ _ _ _ _ _ (c8 .parse-sequence .ensures) (expressed-told (c .before .before .enum-told2 .given .1) (c .before .cause2 .ensures) (c .place .ensures))))
+      arming-refused (c15 .loop .inv) (arm-sequence _ _ _ (eat-yes _ "|" _ _ (c14 .eat-punctuation .ensures) (c12 .u .given .1)) (expressed-not _ _ _ _ _ _ _ _ _ (c8 .parse-expression-sequence .ensures) (expressed-told (c .before .before .enum-told2 .given .1) (c .before .cause2 .ensures) (c .place .ensures))))
 
   add-count : lts.Need-add-count claims (arms-at t) arms.Post Inv-loop μ-loop
   add-count c =
@@ -117,7 +117,7 @@ module _ (t : ℕ) where
       let c12 = c8 .before .before .before .before in
       let c14 = c12 .before .before in
       let c15 = c14 .before in
-      let o = eat-onward _ "|" _ _ _ (omega arith) (c15 .loop .inv .listing .onward .lies) (c14 .eat-punctuation .ensures) (c12 .u .given .1) in let g = expressed _ _ _ _ _ _ _ _ _ (c8 .parse-sequence .ensures) (c .before .before .arm .given .1) in let a = o .fewer in let b = g .onward .fewer in omega arith
+      let o = eat-onward _ "|" _ _ _ (omega arith) (c15 .loop .inv .listing .onward .lies) (c14 .eat-punctuation .ensures) (c12 .u .given .1) in let g = expressed _ _ _ _ _ _ _ _ _ (c8 .parse-expression-sequence .ensures) (c .before .before .arm .given .1) in let a = o .fewer in let b = g .onward .fewer in omega arith
 
   loop-again : lts.Need-loop-again claims (arms-at t) arms.Post Inv-loop μ-loop
   loop-again c =
@@ -125,7 +125,7 @@ module _ (t : ℕ) where
       let c12 = c8 .before .before .before .before in
       let c14 = c12 .before .before in
       let c15 = c14 .before in
-      rw (c .first-empty .ensures) (arming-more (c15 .loop .inv) (expressed _ _ _ _ _ _ _ _ _ (c8 .parse-sequence .ensures) (c .before .before .arm .given .1)) (eat-onward _ "|" _ _ _ (omega arith) (c15 .loop .inv .listing .onward .lies) (c14 .eat-punctuation .ensures) (c12 .u .given .1)) (eat-yes _ "|" _ _ (c14 .eat-punctuation .ensures) (c12 .u .given .1)))
+      rw (c .first-empty .ensures) (arming-more (c15 .loop .inv) (expressed _ _ _ _ _ _ _ _ _ (c8 .parse-expression-sequence .ensures) (c .before .before .arm .given .1)) (eat-onward _ "|" _ _ _ (omega arith) (c15 .loop .inv .listing .onward .lies) (c14 .eat-punctuation .ensures) (c12 .u .given .1)) (eat-yes _ "|" _ _ (c14 .eat-punctuation .ensures) (c12 .u .given .1)))
 
   pub met : {M : Type 1} → lts.Closed claims (arms-at t) arms.Post M
-  met = lts.spec claims (arms-at t) arms.Post Inv-loop μ-loop loop-holds eat-punctuation-requires enum-known-cause same-length same-length-2 returns enum-told same-length-3 same-length-4 returns-2 enum-known-u parse-sequence-requires enum-known-arm enum-told-2 cause-requires place-requires same-length-5 same-length-6 returns-3 add-count first-empty-requires loop-less loop-again
+  met = lts.spec claims (arms-at t) arms.Post Inv-loop μ-loop loop-holds eat-punctuation-requires enum-known-cause same-length same-length-2 returns enum-told same-length-3 same-length-4 returns-2 enum-known-u parse-expression-sequence-requires enum-known-arm enum-told-2 cause-requires place-requires same-length-5 same-length-6 returns-3 add-count first-empty-requires loop-less loop-again
