@@ -1,6 +1,6 @@
-// From the tokens of a text to the records of its tree: expressions, from `parse_rule` to `parse_expression_choice`.
+// From the tokens of a text to the records of its tree: expressions, from `parse_braced_expression` to `parse_expression_choice`.
 // The functions call each other in a cycle: with each call the rest of the text is shorter, or it is the same and the function comes later in
-// the grammar. `left` is how many levels are left inside this one.
+// the grammar. `left` is how many levels may still be entered.
 pub mod store; // records and texts in what is lent
 pub mod props; // lists and props
 pub mod parts; // parts of rules and expressions
@@ -165,7 +165,7 @@ fn word(
         (lent n (now (records .entry)) x (now (texts .entry))) (now (records .exit)) (now (texts .exit)) r ⌝ }
 {
     if lexer::words::spells(&source[a..e], b"specialize") {
-        return special(
+        return specialize(
             source,
             left,
             token,
@@ -177,7 +177,7 @@ fn word(
         );
     }
     if lexer::words::spells(&source[a..e], b"extend") {
-        return special(
+        return specialize(
             source,
             left,
             token,
@@ -311,7 +311,7 @@ fn apply(
     Expressed::Done(u, put.n, put.x, tokens::start(name), Shape::Name)
 }
 
-// After `(`, which is the token `first`.
+// `parse_parenthesized_expression`: after `(`, which is the token `first`.
 fn parens(
     source: &[u8],
     left: usize,
@@ -346,32 +346,7 @@ fn parens(
     }
 }
 
-// A second part, and `>`.
-fn last(
-    source: &[u8],
-    left: usize,
-    token: Current,
-    records: &mut [u32],
-    n: usize,
-    texts: &mut [u8],
-    x: usize,
-) -> Expressed
-    requires { ⌜ Ready (now source) token n x ⌝ }
-    ensures { λ r. ⌜ Expresses (secondPart (choiceAt left) (stream (now (source .entry)) token)) (now (source .entry)) token 1 0
-        (lent n (now (records .entry)) x (now (texts .entry))) (now (records .exit)) (now (texts .exit)) r ⌝ }
-{
-    let inside = parse_expression_choice(source, left, token, records, n, texts, x);
-    let Expressed::Done(v, m, y, p, shape) = inside else {
-        return inside;
-    };
-    let closed = tokens::expect_punctuation(source, v, 0x3E);
-    let Arrived::At(u) = closed else {
-        return Expressed::Refused(closed.cause(), closed.place());
-    };
-    Expressed::Done(u, m, y, p, shape)
-}
-
-// The parts of a specialize that starts at `start`, and `>`.
+// The two parts of a specialize that starts at `start`, and `>`.
 fn pair(
     source: &[u8],
     left: usize,
@@ -393,9 +368,13 @@ fn pair(
     match tokens::eat_punctuation(source, u, 0x2C) {
         Eaten::Refused(cause, at) => Parsed::Refused(cause, at),
         Eaten::Yes(v) => {
-            let behind = last(source, left, v, records, m, texts, y);
-            let Expressed::Done(t, k, z, _, _) = behind else {
-                return Parsed::Refused(behind.cause(), behind.place());
+            let second = parse_expression_choice(source, left, v, records, m, texts, y);
+            let Expressed::Done(w, k, z, _, _) = second else {
+                return Parsed::Refused(second.cause(), second.place());
+            };
+            let closed = tokens::expect_punctuation(source, w, 0x3E);
+            let Arrived::At(t) = closed else {
+                return Parsed::Refused(closed.cause(), closed.place());
             };
             Parsed::Done(t, k, z)
         }
@@ -423,8 +402,8 @@ fn pair(
     }
 }
 
-// At `@specialize` or `@extend`.
-fn special(
+// `parse_specialize_expression`: at `@specialize` or `@extend`.
+fn specialize(
     source: &[u8],
     left: usize,
     token: Current,
@@ -457,7 +436,7 @@ fn special(
     Expressed::Done(v, w, z, tokens::start(token), Shape::Other)
 }
 
-// An inline rule from its props or its brace on. Its first token is its name, or its bracket where it has none.
+// `parse_inline_rule_expression`: from its props or its brace on. Its first token is its name, or its bracket where it has none.
 fn inline(
     source: &[u8],
     left: usize,
@@ -537,6 +516,7 @@ fn list(
     }
 }
 
+// `parse_arguments`: those of a name, none where no `<` follows.
 fn args(
     source: &[u8],
     left: usize,
@@ -628,6 +608,7 @@ fn item(
     }
 }
 
+// Markers and expressions up to the sequence's end.
 fn items(
     source: &[u8],
     left: usize,

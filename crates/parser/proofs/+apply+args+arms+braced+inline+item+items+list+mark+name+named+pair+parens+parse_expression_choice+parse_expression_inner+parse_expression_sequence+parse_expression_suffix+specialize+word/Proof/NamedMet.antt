@@ -6,9 +6,9 @@ use borrow.Author.Needs.{needs}
 use Rattle.parser.proofs.Ready.{name-in}
 use Rattle.parser.proofs.InnerRules.{named-bracket, named-brace, named-std, named-plain}
 use Rattle.parser.proofs.InnerLaws.{expresses-as, behind-here, std-dot}
-use Rattle.parser.proofs.+apply+args+arms+braced+inline+item+items+last+list+mark+name+named+pair+parens+parse_expression_choice+parse_expression_inner+parse_expression_sequence+parse_expression_suffix+special+word.Proof.Falls.{falls-on, named-at, inline-below, apply-below}
+use Rattle.parser.proofs.+apply+args+arms+braced+inline+item+items+list+mark+name+named+pair+parens+parse_expression_choice+parse_expression_inner+parse_expression_sequence+parse_expression_suffix+specialize+word.Proof.Falls.{falls-on, named-at, inline-below, apply-below}
 use Rattle.parser.proofs.named.Reads as named
-use Rattle.parser.proofs.+apply+args+arms+braced+inline+item+items+last+list+mark+name+named+pair+parens+parse_expression_choice+parse_expression_inner+parse_expression_sequence+parse_expression_suffix+special+word.Lts-named as lts
+use Rattle.parser.proofs.+apply+args+arms+braced+inline+item+items+list+mark+name+named+pair+parens+parse_expression_choice+parse_expression_inner+parse_expression_sequence+parse_expression_suffix+specialize+word.Lts-named as lts
 use Rattle.parser.proofs.inline.Reads as inline
 use Rattle.parser.proofs.apply.Reads as apply
 use Rattle.parser.proofs.parts.is_std.Reads as is-std-reads

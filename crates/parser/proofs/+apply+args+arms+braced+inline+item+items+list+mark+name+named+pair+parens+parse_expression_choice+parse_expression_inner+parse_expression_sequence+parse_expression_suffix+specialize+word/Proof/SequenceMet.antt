@@ -10,9 +10,9 @@ use Rattle.parser.proofs.SequenceRules.{sequence-refused, sequence-done
 use Rattle.parser.proofs.Yielded.{ready-start, sequence-alone, sequence-over}
 use Rattle.parser.proofs.Marks.{items-small}
 use Rattle.parser.proofs.Told.{items-told}
-use Rattle.parser.proofs.+apply+args+arms+braced+inline+item+items+last+list+mark+name+named+pair+parens+parse_expression_choice+parse_expression_inner+parse_expression_sequence+parse_expression_suffix+special+word.Proof.Falls.{parse-expression-sequence-at, items-below}
+use Rattle.parser.proofs.+apply+args+arms+braced+inline+item+items+list+mark+name+named+pair+parens+parse_expression_choice+parse_expression_inner+parse_expression_sequence+parse_expression_suffix+specialize+word.Proof.Falls.{parse-expression-sequence-at, items-below}
 use Rattle.parser.proofs.parse_expression_sequence.Reads as parse-expression-sequence
-use Rattle.parser.proofs.+apply+args+arms+braced+inline+item+items+last+list+mark+name+named+pair+parens+parse_expression_choice+parse_expression_inner+parse_expression_sequence+parse_expression_suffix+special+word.Lts-parse_expression_sequence as lts
+use Rattle.parser.proofs.+apply+args+arms+braced+inline+item+items+list+mark+name+named+pair+parens+parse_expression_choice+parse_expression_inner+parse_expression_sequence+parse_expression_suffix+specialize+word.Lts-parse_expression_sequence as lts
 use Rattle.parser.proofs.items.Reads as items
 use Rattle.parser.proofs.store.put_plain.Reads as put-plain-reads
 use Rattle.parser.proofs.parts.sequence_shape.Reads as sequence-shape-reads

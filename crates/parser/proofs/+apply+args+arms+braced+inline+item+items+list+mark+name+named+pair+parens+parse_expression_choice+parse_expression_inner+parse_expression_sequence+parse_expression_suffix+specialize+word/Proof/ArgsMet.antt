@@ -8,9 +8,9 @@ use Rattle.parser.specs.Storing.{nodesOf}
 use Rattle.parser.proofs.Onward.{eat-onward}
 use Rattle.parser.proofs.Ready.{ready-step}
 use Rattle.parser.proofs.Openings.{optional-none, optional-refused, optional-list}
-use Rattle.parser.proofs.+apply+args+arms+braced+inline+item+items+last+list+mark+name+named+pair+parens+parse_expression_choice+parse_expression_inner+parse_expression_sequence+parse_expression_suffix+special+word.Proof.Falls.{falls-past, args-at, list-below}
+use Rattle.parser.proofs.+apply+args+arms+braced+inline+item+items+list+mark+name+named+pair+parens+parse_expression_choice+parse_expression_inner+parse_expression_sequence+parse_expression_suffix+specialize+word.Proof.Falls.{falls-past, args-at, list-below}
 use Rattle.parser.proofs.args.Reads as args
-use Rattle.parser.proofs.+apply+args+arms+braced+inline+item+items+last+list+mark+name+named+pair+parens+parse_expression_choice+parse_expression_inner+parse_expression_sequence+parse_expression_suffix+special+word.Lts-args as lts
+use Rattle.parser.proofs.+apply+args+arms+braced+inline+item+items+list+mark+name+named+pair+parens+parse_expression_choice+parse_expression_inner+parse_expression_sequence+parse_expression_suffix+specialize+word.Lts-args as lts
 use Rattle.parser.proofs.list.Reads as list
 use Rattle.tokens.proofs.eat_punctuation.Reads as eat-punctuation-reads
 

@@ -7,17 +7,17 @@ use Rattle.parser.proofs.Onward.{at-token}
 use Rattle.parser.proofs.Ready.{at-in}
 use Rattle.parser.proofs.InnerRules.{spelled, inner-specialize, inner-extend, inner-class}
 use Rattle.parser.proofs.InnerLaws.{expresses-as, ready-here, ready-start, plain-specialize, plain-extend}
-use Rattle.parser.proofs.+apply+args+arms+braced+inline+item+items+last+list+mark+name+named+pair+parens+parse_expression_choice+parse_expression_inner+parse_expression_sequence+parse_expression_suffix+special+word.Proof.Falls.{falls-on, word-at, special-below}
+use Rattle.parser.proofs.+apply+args+arms+braced+inline+item+items+list+mark+name+named+pair+parens+parse_expression_choice+parse_expression_inner+parse_expression_sequence+parse_expression_suffix+specialize+word.Proof.Falls.{falls-on, word-at, specialize-below}
 use Rattle.parser.proofs.word.Reads as word
-use Rattle.parser.proofs.+apply+args+arms+braced+inline+item+items+last+list+mark+name+named+pair+parens+parse_expression_choice+parse_expression_inner+parse_expression_sequence+parse_expression_suffix+special+word.Lts-word as lts
-use Rattle.parser.proofs.special.Reads as special
+use Rattle.parser.proofs.+apply+args+arms+braced+inline+item+items+list+mark+name+named+pair+parens+parse_expression_choice+parse_expression_inner+parse_expression_sequence+parse_expression_suffix+specialize+word.Lts-word as lts
+use Rattle.parser.proofs.specialize.Reads as specialize
 use Rattle.parser.proofs.parts.parse_class.Reads as parse-class-reads
 use Rattle.lexer.proofs.words.spells.Reads as spells-reads
 use Rattle.tokens.proofs.start.Reads as start-reads
 
 module _ (t : ℕ) where
   abbrev claims : lts.Claims
-  claims = (spells-reads.Asked, spells-reads.Learnt, special-below t, special.Post, start-reads.Asked, start-reads.Learnt, parse-class-reads.Asked, parse-class-reads.Learnt)
+  claims = (spells-reads.Asked, spells-reads.Learnt, specialize-below t, specialize.Post, start-reads.Asked, start-reads.Learnt, parse-class-reads.Asked, parse-class-reads.Learnt)
 
   sub-spells : lts.Need-sub-spells claims (word-at t) word.Post
   sub-spells c = at-in (c .before .before .before .pre .1 .0) (c .before .before .before .pre .1 .1) .part .forth
@@ -34,8 +34,8 @@ module _ (t : ℕ) where
   spells-requires : lts.Need-spells-requires claims (word-at t) word.Post
   spells-requires c κs = search needs
 
-  special-requires : lts.Need-special-requires claims (word-at t) word.Post
-  special-requires c κs =
+  specialize-requires : lts.Need-specialize-requires claims (word-at t) word.Post
+  specialize-requires c κs =
       let c9 = c .before .before .before .before .before .before .before .before .before in
       (falls-on 13 12 (ready-here (c9 .pre .1 .0)) (c9 .pre .0) (omega arith), (c9 .pre .1 .0, at-token (c9 .args .token) (c9 .pre .1 .1)))
 
@@ -51,7 +51,7 @@ module _ (t : ℕ) where
       let c7 = c4 .before .before .before in
       let c8 = c7 .before in
       let c14 = c8 .before .before .before .before .before .before in
-      let w = spelled _ _ _ _ _ (at-in (c14 .pre .1 .0) (c14 .pre .1 .1) .part) (c8 .spells .ensures) plain-specialize in expresses-as _ _ _ _ _ _ _ _ _ (c4 .special .result) (c4 .special .ensures) (inner-specialize _ _ _ (c14 .pre .1 .1) (w ∙ c7 .if1 .taken))
+      let w = spelled _ _ _ _ _ (at-in (c14 .pre .1 .0) (c14 .pre .1 .1) .part) (c8 .spells .ensures) plain-specialize in expresses-as _ _ _ _ _ _ _ _ _ (c4 .specialize .result) (c4 .specialize .ensures) (inner-specialize _ _ _ (c14 .pre .1 .1) (w ∙ c7 .if1 .taken))
 
   sub-spells-2 : lts.Need-sub-spells-2 claims (word-at t) word.Post
   sub-spells-2 c = at-in (c .before .before .before .before .before .before .before .pre .1 .0) (c .before .before .before .before .before .before .before .pre .1 .1) .part .forth
@@ -68,8 +68,8 @@ module _ (t : ℕ) where
   spells-requires-2 : lts.Need-spells-requires-2 claims (word-at t) word.Post
   spells-requires-2 c κs = search needs
 
-  special-requires-2 : lts.Need-special-requires-2 claims (word-at t) word.Post
-  special-requires-2 c κs =
+  specialize-requires-2 : lts.Need-specialize-requires-2 claims (word-at t) word.Post
+  specialize-requires-2 c κs =
       let c13 = c .before .before .before .before .before .before .before .before .before .before .before .before .before in
       (falls-on 13 12 (ready-here (c13 .pre .1 .0)) (c13 .pre .0) (omega arith), (c13 .pre .1 .0, at-token (c13 .args .token) (c13 .pre .1 .1)))
 
@@ -87,7 +87,7 @@ module _ (t : ℕ) where
       let c11 = c8 .before .before .before in
       let c12 = c11 .before in
       let c18 = c12 .before .before .before .before .before .before in
-      let w = spelled _ _ _ _ _ (at-in (c18 .pre .1 .0) (c18 .pre .1 .1) .part) (c12 .spells .ensures) plain-specialize in let v = spelled _ _ _ _ _ (at-in (c18 .pre .1 .0) (c18 .pre .1 .1) .part) (c8 .spells2 .ensures) plain-extend in expresses-as _ _ _ _ _ _ _ _ _ (c4 .special2 .result) (c4 .special2 .ensures) (inner-extend _ _ _ (c18 .pre .1 .1) (w ∙ c11 .if1 .left) (v ∙ c7 .if2 .taken))
+      let w = spelled _ _ _ _ _ (at-in (c18 .pre .1 .0) (c18 .pre .1 .1) .part) (c12 .spells .ensures) plain-specialize in let v = spelled _ _ _ _ _ (at-in (c18 .pre .1 .0) (c18 .pre .1 .1) .part) (c8 .spells2 .ensures) plain-extend in expresses-as _ _ _ _ _ _ _ _ _ (c4 .specialize2 .result) (c4 .specialize2 .ensures) (inner-extend _ _ _ (c18 .pre .1 .1) (w ∙ c11 .if1 .left) (v ∙ c7 .if2 .taken))
 
   start-requires : lts.Need-start-requires claims (word-at t) word.Post
   start-requires c κs = search needs
@@ -115,4 +115,4 @@ module _ (t : ℕ) where
       let w = spelled _ _ _ _ _ (at-in (c19 .pre .1 .0) (c19 .pre .1 .1) .part) (c13 .spells .ensures) plain-specialize in let v = spelled _ _ _ _ _ (at-in (c19 .pre .1 .0) (c19 .pre .1 .1) .part) (c9 .spells2 .ensures) plain-extend in expresses-as _ _ _ _ _ _ _ _ _ (c4 .parse-class .result) (c4 .parse-class .ensures) (rw (c7 .start .ensures) (inner-class _ _ _ (c19 .pre .1 .1) (w ∙ c12 .if1 .left) (v ∙ c8 .if2 .left)))
 
   pub met : {M : Type 1} → lts.Closed claims (word-at t) word.Post M
-  met = lts.spec claims (word-at t) word.Post sub-spells part-spells-start part-spells-end slice-aggregate-spells spells-requires special-requires same-length same-length-2 returns sub-spells-2 part-spells-start-2 part-spells-end-2 slice-aggregate-spells-2 spells-requires-2 special-requires-2 same-length-3 same-length-4 returns-2 start-requires parse-class-requires same-length-5 same-length-6 returns-3
+  met = lts.spec claims (word-at t) word.Post sub-spells part-spells-start part-spells-end slice-aggregate-spells spells-requires specialize-requires same-length same-length-2 returns sub-spells-2 part-spells-start-2 part-spells-end-2 slice-aggregate-spells-2 spells-requires-2 specialize-requires-2 same-length-3 same-length-4 returns-2 start-requires parse-class-requires same-length-5 same-length-6 returns-3

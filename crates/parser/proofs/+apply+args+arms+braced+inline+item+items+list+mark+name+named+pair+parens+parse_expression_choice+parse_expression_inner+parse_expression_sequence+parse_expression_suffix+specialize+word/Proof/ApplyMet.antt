@@ -8,9 +8,9 @@ use Rattle.parser.proofs.Openings.{listed, listed-not}
 use Rattle.parser.proofs.InnerRules.{reference-refused}
 use Rattle.parser.proofs.InnerLaws.{behind-here, reference-yields}
 use Rattle.parser.proofs.Told.{listed-told}
-use Rattle.parser.proofs.+apply+args+arms+braced+inline+item+items+last+list+mark+name+named+pair+parens+parse_expression_choice+parse_expression_inner+parse_expression_sequence+parse_expression_suffix+special+word.Proof.Falls.{falls-on, apply-at, args-below}
+use Rattle.parser.proofs.+apply+args+arms+braced+inline+item+items+list+mark+name+named+pair+parens+parse_expression_choice+parse_expression_inner+parse_expression_sequence+parse_expression_suffix+specialize+word.Proof.Falls.{falls-on, apply-at, args-below}
 use Rattle.parser.proofs.apply.Reads as apply
-use Rattle.parser.proofs.+apply+args+arms+braced+inline+item+items+last+list+mark+name+named+pair+parens+parse_expression_choice+parse_expression_inner+parse_expression_sequence+parse_expression_suffix+special+word.Lts-apply as lts
+use Rattle.parser.proofs.+apply+args+arms+braced+inline+item+items+list+mark+name+named+pair+parens+parse_expression_choice+parse_expression_inner+parse_expression_sequence+parse_expression_suffix+specialize+word.Lts-apply as lts
 use Rattle.parser.proofs.args.Reads as args
 use Rattle.parser.proofs.store.put_named.Reads as put-named-reads
 use Rattle.tokens.proofs.start.Reads as start-reads

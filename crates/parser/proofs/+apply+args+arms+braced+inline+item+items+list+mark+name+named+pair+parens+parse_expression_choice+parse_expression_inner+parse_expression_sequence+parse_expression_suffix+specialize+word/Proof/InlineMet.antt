@@ -9,9 +9,9 @@ use Rattle.parser.proofs.Took.{head-read, head-not}
 use Rattle.parser.proofs.InnerRules.{inline-head, inline-body}
 use Rattle.parser.proofs.InnerLaws.{inline-on, braced-read, braced-not, heads-small, inline-ready, inline-refused, inline-yields}
 use Rattle.parser.proofs.Told.{headed-told}
-use Rattle.parser.proofs.+apply+args+arms+braced+inline+item+items+last+list+mark+name+named+pair+parens+parse_expression_choice+parse_expression_inner+parse_expression_sequence+parse_expression_suffix+special+word.Proof.Falls.{falls-on, inline-at, braced-below}
+use Rattle.parser.proofs.+apply+args+arms+braced+inline+item+items+list+mark+name+named+pair+parens+parse_expression_choice+parse_expression_inner+parse_expression_sequence+parse_expression_suffix+specialize+word.Proof.Falls.{falls-on, inline-at, braced-below}
 use Rattle.parser.proofs.inline.Reads as inline
-use Rattle.parser.proofs.+apply+args+arms+braced+inline+item+items+last+list+mark+name+named+pair+parens+parse_expression_choice+parse_expression_inner+parse_expression_sequence+parse_expression_suffix+special+word.Lts-inline as lts
+use Rattle.parser.proofs.+apply+args+arms+braced+inline+item+items+list+mark+name+named+pair+parens+parse_expression_choice+parse_expression_inner+parse_expression_sequence+parse_expression_suffix+specialize+word.Lts-inline as lts
 use Rattle.parser.proofs.braced.Reads as braced
 use Rattle.parser.proofs.parts.put_inline.Reads as put-inline-reads
 use Rattle.parser.proofs.parts.rule_head.Reads as rule-head-reads

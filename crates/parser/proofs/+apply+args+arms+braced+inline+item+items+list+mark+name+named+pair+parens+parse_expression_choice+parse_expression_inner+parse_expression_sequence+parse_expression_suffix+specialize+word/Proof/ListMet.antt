@@ -15,9 +15,9 @@ use Rattle.parser.proofs.Openings.{item-onward, list-closed, list-refus
 use Rattle.parser.proofs.Took.{expressed, expressed-not}
 use Rattle.parser.proofs.InnerLaws.{argument-ready, argument-refused, argument-more}
 use Rattle.parser.proofs.Told.{expressed-told}
-use Rattle.parser.proofs.+apply+args+arms+braced+inline+item+items+last+list+mark+name+named+pair+parens+parse_expression_choice+parse_expression_inner+parse_expression_sequence+parse_expression_suffix+special+word.Proof.Falls.{falls-on, list-at, parse-expression-choice-below}
+use Rattle.parser.proofs.+apply+args+arms+braced+inline+item+items+list+mark+name+named+pair+parens+parse_expression_choice+parse_expression_inner+parse_expression_sequence+parse_expression_suffix+specialize+word.Proof.Falls.{falls-on, list-at, parse-expression-choice-below}
 use Rattle.parser.proofs.list.Reads as list
-use Rattle.parser.proofs.+apply+args+arms+braced+inline+item+items+last+list+mark+name+named+pair+parens+parse_expression_choice+parse_expression_inner+parse_expression_sequence+parse_expression_suffix+special+word.Lts-list as lts
+use Rattle.parser.proofs.+apply+args+arms+braced+inline+item+items+list+mark+name+named+pair+parens+parse_expression_choice+parse_expression_inner+parse_expression_sequence+parse_expression_suffix+specialize+word.Lts-list as lts
 use Rattle.parser.proofs.parse_expression_choice.Reads as parse-expression-choice
 use Rattle.parser.proofs.props.opening.Reads as opening-reads
 use Rattle.parser.proofs.parts.Expressed.cause.Reads as expressed-cause-reads

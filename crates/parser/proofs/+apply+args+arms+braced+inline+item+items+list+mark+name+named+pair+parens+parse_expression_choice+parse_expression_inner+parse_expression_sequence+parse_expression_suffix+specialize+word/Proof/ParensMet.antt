@@ -13,9 +13,9 @@ use Rattle.parser.proofs.Shown.{yields-within, yields-least, shown-empt
 use Rattle.parser.proofs.PartRules.{nodes-empty}
 use Rattle.parser.proofs.Yielded.{ready-start, yields-over, no-texts}
 use Rattle.tokens.proofs.Told.{arrived-told}
-use Rattle.parser.proofs.+apply+args+arms+braced+inline+item+items+last+list+mark+name+named+pair+parens+parse_expression_choice+parse_expression_inner+parse_expression_sequence+parse_expression_suffix+special+word.Proof.Falls.{parens-at, parse-expression-choice-below}
+use Rattle.parser.proofs.+apply+args+arms+braced+inline+item+items+list+mark+name+named+pair+parens+parse_expression_choice+parse_expression_inner+parse_expression_sequence+parse_expression_suffix+specialize+word.Proof.Falls.{parens-at, parse-expression-choice-below}
 use Rattle.parser.proofs.parens.Reads as parens
-use Rattle.parser.proofs.+apply+args+arms+braced+inline+item+items+last+list+mark+name+named+pair+parens+parse_expression_choice+parse_expression_inner+parse_expression_sequence+parse_expression_suffix+special+word.Lts-parens as lts
+use Rattle.parser.proofs.+apply+args+arms+braced+inline+item+items+list+mark+name+named+pair+parens+parse_expression_choice+parse_expression_inner+parse_expression_sequence+parse_expression_suffix+specialize+word.Lts-parens as lts
 use Rattle.parser.proofs.parse_expression_choice.Reads as parse-expression-choice
 use Rattle.tokens.proofs.eat_punctuation.Reads as eat-punctuation-reads
 use Rattle.tokens.proofs.expect_punctuation.Reads as expect-punctuation-reads

@@ -8,9 +8,9 @@ use Rattle.parser.proofs.Ready.{arrived-at, arrived-not, name-in}
 use Rattle.parser.proofs.InnerRules.{spelled, inner-any, inner-named, inner-named-refused}
 use Rattle.parser.proofs.InnerLaws.{expresses-as, next-behind, plain-any}
 use Rattle.tokens.proofs.Told.{arrived-told}
-use Rattle.parser.proofs.+apply+args+arms+braced+inline+item+items+last+list+mark+name+named+pair+parens+parse_expression_choice+parse_expression_inner+parse_expression_sequence+parse_expression_suffix+special+word.Proof.Falls.{falls-past, name-at, named-below}
+use Rattle.parser.proofs.+apply+args+arms+braced+inline+item+items+list+mark+name+named+pair+parens+parse_expression_choice+parse_expression_inner+parse_expression_sequence+parse_expression_suffix+specialize+word.Proof.Falls.{falls-past, name-at, named-below}
 use Rattle.parser.proofs.name.Reads as name
-use Rattle.parser.proofs.+apply+args+arms+braced+inline+item+items+last+list+mark+name+named+pair+parens+parse_expression_choice+parse_expression_inner+parse_expression_sequence+parse_expression_suffix+special+word.Lts-name as lts
+use Rattle.parser.proofs.+apply+args+arms+braced+inline+item+items+list+mark+name+named+pair+parens+parse_expression_choice+parse_expression_inner+parse_expression_sequence+parse_expression_suffix+specialize+word.Lts-name as lts
 use Rattle.parser.proofs.named.Reads as named
 use Rattle.tokens.proofs.next.Reads as next-reads
 use Rattle.parser.proofs.parts.parse_any.Reads as parse-any-reads

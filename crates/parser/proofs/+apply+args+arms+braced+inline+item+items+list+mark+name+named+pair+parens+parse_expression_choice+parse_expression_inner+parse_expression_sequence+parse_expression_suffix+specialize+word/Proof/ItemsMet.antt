@@ -10,9 +10,9 @@ use Rattle.parser.specs.Storing.{lent}
 use Rattle.parser.proofs.Ready.{ready-on}
 use Rattle.parser.proofs.Took.{item-marker-read, item-read, item-over, item-not}
 use Rattle.parser.proofs.Itemizing.{Itemizing, itemizing, itemizing-marker, itemizing-expression, itemizing-over, itemizing-refused, itemizing-small}
-use Rattle.parser.proofs.+apply+args+arms+braced+inline+item+items+last+list+mark+name+named+pair+parens+parse_expression_choice+parse_expression_inner+parse_expression_sequence+parse_expression_suffix+special+word.Proof.Falls.{falls-on, items-at, item-below}
+use Rattle.parser.proofs.+apply+args+arms+braced+inline+item+items+list+mark+name+named+pair+parens+parse_expression_choice+parse_expression_inner+parse_expression_sequence+parse_expression_suffix+specialize+word.Proof.Falls.{falls-on, items-at, item-below}
 use Rattle.parser.proofs.items.Reads as items
-use Rattle.parser.proofs.+apply+args+arms+braced+inline+item+items+last+list+mark+name+named+pair+parens+parse_expression_choice+parse_expression_inner+parse_expression_sequence+parse_expression_suffix+special+word.Lts-items as lts
+use Rattle.parser.proofs.+apply+args+arms+braced+inline+item+items+list+mark+name+named+pair+parens+parse_expression_choice+parse_expression_inner+parse_expression_sequence+parse_expression_suffix+specialize+word.Lts-items as lts
 use Rattle.parser.proofs.item.Reads as item
 
 abbrev Inv-loop : lts.InvT-loop

@@ -7,9 +7,9 @@ use Rattle.parser.proofs.Took.{expressed, expressed-not}
 use Rattle.parser.proofs.SequenceRules.{item-marker, item-end, item-refused, item-some}
 use Rattle.parser.proofs.Marks.{marked-some, marked-none, marker-token}
 use Rattle.parser.proofs.Told.{expressed-told}
-use Rattle.parser.proofs.+apply+args+arms+braced+inline+item+items+last+list+mark+name+named+pair+parens+parse_expression_choice+parse_expression_inner+parse_expression_sequence+parse_expression_suffix+special+word.Proof.Falls.{item-at, parse-expression-suffix-below}
+use Rattle.parser.proofs.+apply+args+arms+braced+inline+item+items+list+mark+name+named+pair+parens+parse_expression_choice+parse_expression_inner+parse_expression_sequence+parse_expression_suffix+specialize+word.Proof.Falls.{item-at, parse-expression-suffix-below}
 use Rattle.parser.proofs.item.Reads as item
-use Rattle.parser.proofs.+apply+args+arms+braced+inline+item+items+last+list+mark+name+named+pair+parens+parse_expression_choice+parse_expression_inner+parse_expression_sequence+parse_expression_suffix+special+word.Lts-item as lts
+use Rattle.parser.proofs.+apply+args+arms+braced+inline+item+items+list+mark+name+named+pair+parens+parse_expression_choice+parse_expression_inner+parse_expression_sequence+parse_expression_suffix+specialize+word.Lts-item as lts
 use Rattle.parser.proofs.parse_expression_suffix.Reads as parse-expression-suffix
 use Rattle.parser.proofs.parts.ends_sequence.Reads as ends-sequence-reads
 use Rattle.tokens.proofs.mark.Reads as mark-reads

@@ -9,9 +9,9 @@ use Rattle.parser.proofs.SequenceRules.{suffix-inner, suffix-repeats, s
 use Rattle.tokens.proofs.Stream.{start-of}
 use Rattle.parser.proofs.Yielded.{ready-start, stack-low, small-stack, suffix-plain, suffix-repeated}
 use Rattle.parser.proofs.Told.{listed-told}
-use Rattle.parser.proofs.+apply+args+arms+braced+inline+item+items+last+list+mark+name+named+pair+parens+parse_expression_choice+parse_expression_inner+parse_expression_sequence+parse_expression_suffix+special+word.Proof.Falls.{parse-expression-suffix-at, parse-expression-inner-below}
+use Rattle.parser.proofs.+apply+args+arms+braced+inline+item+items+list+mark+name+named+pair+parens+parse_expression_choice+parse_expression_inner+parse_expression_sequence+parse_expression_suffix+specialize+word.Proof.Falls.{parse-expression-suffix-at, parse-expression-inner-below}
 use Rattle.parser.proofs.parse_expression_suffix.Reads as parse-expression-suffix
-use Rattle.parser.proofs.+apply+args+arms+braced+inline+item+items+last+list+mark+name+named+pair+parens+parse_expression_choice+parse_expression_inner+parse_expression_sequence+parse_expression_suffix+special+word.Lts-parse_expression_suffix as lts
+use Rattle.parser.proofs.+apply+args+arms+braced+inline+item+items+list+mark+name+named+pair+parens+parse_expression_choice+parse_expression_inner+parse_expression_sequence+parse_expression_suffix+specialize+word.Lts-parse_expression_suffix as lts
 use Rattle.parser.proofs.parse_expression_inner.Reads as parse-expression-inner
 use Rattle.parser.proofs.parts.parse_repeats.Reads as parse-repeats-reads
 use Rattle.parser.proofs.parts.stack.Reads as stack-reads

@@ -8,9 +8,9 @@ use Rattle.parser.proofs.Took.{expect-at, expect-not, expressed, expres
 use Rattle.parser.proofs.ExpressionRules.{braced-open, braced-below, braced-close, braced-done}
 use Rattle.parser.proofs.InnerLaws.{yields-braced}
 use Rattle.tokens.proofs.Told.{arrived-told}
-use Rattle.parser.proofs.+apply+args+arms+braced+inline+item+items+last+list+mark+name+named+pair+parens+parse_expression_choice+parse_expression_inner+parse_expression_sequence+parse_expression_suffix+special+word.Proof.Falls.{falls-past, braced-at, parse-expression-choice-below}
+use Rattle.parser.proofs.+apply+args+arms+braced+inline+item+items+list+mark+name+named+pair+parens+parse_expression_choice+parse_expression_inner+parse_expression_sequence+parse_expression_suffix+specialize+word.Proof.Falls.{falls-past, braced-at, parse-expression-choice-below}
 use Rattle.parser.proofs.braced.Reads as braced
-use Rattle.parser.proofs.+apply+args+arms+braced+inline+item+items+last+list+mark+name+named+pair+parens+parse_expression_choice+parse_expression_inner+parse_expression_sequence+parse_expression_suffix+special+word.Lts-braced as lts
+use Rattle.parser.proofs.+apply+args+arms+braced+inline+item+items+list+mark+name+named+pair+parens+parse_expression_choice+parse_expression_inner+parse_expression_sequence+parse_expression_suffix+specialize+word.Lts-braced as lts
 use Rattle.parser.proofs.parse_expression_choice.Reads as parse-expression-choice
 use Rattle.tokens.proofs.expect_punctuation.Reads as expect-punctuation-reads
 use Rattle.tokens.proofs.Arrived.cause.Reads as arrived-cause-reads

@@ -12,9 +12,9 @@ use Rattle.parser.proofs.Took.{eat-yes, eat-no, eat-not, expressed, exp
 use Rattle.parser.proofs.SequenceRules.{arm-refused, arm-none, arm-sequence}
 use Rattle.parser.proofs.Itemizing.{Arming, arming, arming-more, arming-over, arming-refused, arming-small, arm-ready}
 use Rattle.parser.proofs.Told.{expressed-told}
-use Rattle.parser.proofs.+apply+args+arms+braced+inline+item+items+last+list+mark+name+named+pair+parens+parse_expression_choice+parse_expression_inner+parse_expression_sequence+parse_expression_suffix+special+word.Proof.Falls.{falls-past, arms-at, parse-expression-sequence-below}
+use Rattle.parser.proofs.+apply+args+arms+braced+inline+item+items+list+mark+name+named+pair+parens+parse_expression_choice+parse_expression_inner+parse_expression_sequence+parse_expression_suffix+specialize+word.Proof.Falls.{falls-past, arms-at, parse-expression-sequence-below}
 use Rattle.parser.proofs.arms.Reads as arms
-use Rattle.parser.proofs.+apply+args+arms+braced+inline+item+items+last+list+mark+name+named+pair+parens+parse_expression_choice+parse_expression_inner+parse_expression_sequence+parse_expression_suffix+special+word.Lts-arms as lts
+use Rattle.parser.proofs.+apply+args+arms+braced+inline+item+items+list+mark+name+named+pair+parens+parse_expression_choice+parse_expression_inner+parse_expression_sequence+parse_expression_suffix+specialize+word.Lts-arms as lts
 use Rattle.parser.proofs.parse_expression_sequence.Reads as parse-expression-sequence
 use Rattle.tokens.proofs.eat_punctuation.Reads as eat-punctuation-reads
 use Rattle.parser.proofs.parts.first_empty.Reads as first-empty-reads

@@ -9,9 +9,9 @@ use Rattle.parser.proofs.SequenceRules.{choice-deep, choice-sequence, c
 use Rattle.parser.proofs.Yielded.{ready-start}
 use Rattle.parser.proofs.Itemizing.{arms-ready, choice-alone, choice-over, first-empty, choice-ready}
 use Rattle.parser.proofs.Told.{arms-told}
-use Rattle.parser.proofs.+apply+args+arms+braced+inline+item+items+last+list+mark+name+named+pair+parens+parse_expression_choice+parse_expression_inner+parse_expression_sequence+parse_expression_suffix+special+word.Proof.Falls.{falls-on, parse-expression-choice-at, arms-below, parse-expression-sequence-below}
+use Rattle.parser.proofs.+apply+args+arms+braced+inline+item+items+list+mark+name+named+pair+parens+parse_expression_choice+parse_expression_inner+parse_expression_sequence+parse_expression_suffix+specialize+word.Proof.Falls.{falls-on, parse-expression-choice-at, arms-below, parse-expression-sequence-below}
 use Rattle.parser.proofs.parse_expression_choice.Reads as parse-expression-choice
-use Rattle.parser.proofs.+apply+args+arms+braced+inline+item+items+last+list+mark+name+named+pair+parens+parse_expression_choice+parse_expression_inner+parse_expression_sequence+parse_expression_suffix+special+word.Lts-parse_expression_choice as lts
+use Rattle.parser.proofs.+apply+args+arms+braced+inline+item+items+list+mark+name+named+pair+parens+parse_expression_choice+parse_expression_inner+parse_expression_sequence+parse_expression_suffix+specialize+word.Lts-parse_expression_choice as lts
 use Rattle.parser.proofs.arms.Reads as arms
 use Rattle.parser.proofs.parse_expression_sequence.Reads as parse-expression-sequence
 use Rattle.parser.proofs.parts.first_of.Reads as first-of-reads

@@ -47,10 +47,8 @@ use Rattle.parser.proofs.pair.Reads as pair
 use Rattle.parser.proofs.pair.Kinds as pair-kinds
 use Rattle.parser.proofs.apply.Reads as apply
 use Rattle.parser.proofs.apply.Kinds as apply-kinds
-use Rattle.parser.proofs.last.Reads as last
-use Rattle.parser.proofs.last.Kinds as last-kinds
-use Rattle.parser.proofs.special.Reads as special
-use Rattle.parser.proofs.special.Kinds as special-kinds
+use Rattle.parser.proofs.specialize.Reads as specialize
+use Rattle.parser.proofs.specialize.Kinds as specialize-kinds
 
 abbrev pub rank : List ℕ → Current → ℕ → ℕ
 rank s t r = (length s - placed s t) * 32 + r
@@ -225,20 +223,11 @@ apply-at t = and 3 apply-kinds.ps (is 3 apply-kinds.ps μ-apply t) apply.Pre
 abbrev pub apply-below : ℕ → In 3 apply-kinds.ps
 apply-below t = and 3 apply-kinds.ps (falls 3 apply-kinds.ps _<_ μ-apply t) apply.Pre
 
-abbrev pub μ-last : Measures 3 last-kinds.ps ℕ
-μ-last κs a = rank (a .0 .now) (a .1 .1 .0) 21
+abbrev pub μ-specialize : Measures 3 specialize-kinds.ps ℕ
+μ-specialize κs a = rank (a .0 .now) (a .1 .1 .0) 12
 
-abbrev pub last-at : ℕ → In 3 last-kinds.ps
-last-at t = and 3 last-kinds.ps (is 3 last-kinds.ps μ-last t) last.Pre
+abbrev pub specialize-at : ℕ → In 3 specialize-kinds.ps
+specialize-at t = and 3 specialize-kinds.ps (is 3 specialize-kinds.ps μ-specialize t) specialize.Pre
 
-abbrev pub last-below : ℕ → In 3 last-kinds.ps
-last-below t = and 3 last-kinds.ps (falls 3 last-kinds.ps _<_ μ-last t) last.Pre
-
-abbrev pub μ-special : Measures 3 special-kinds.ps ℕ
-μ-special κs a = rank (a .0 .now) (a .1 .1 .0) 12
-
-abbrev pub special-at : ℕ → In 3 special-kinds.ps
-special-at t = and 3 special-kinds.ps (is 3 special-kinds.ps μ-special t) special.Pre
-
-abbrev pub special-below : ℕ → In 3 special-kinds.ps
-special-below t = and 3 special-kinds.ps (falls 3 special-kinds.ps _<_ μ-special t) special.Pre
+abbrev pub specialize-below : ℕ → In 3 specialize-kinds.ps
+specialize-below t = and 3 specialize-kinds.ps (falls 3 specialize-kinds.ps _<_ μ-specialize t) specialize.Pre

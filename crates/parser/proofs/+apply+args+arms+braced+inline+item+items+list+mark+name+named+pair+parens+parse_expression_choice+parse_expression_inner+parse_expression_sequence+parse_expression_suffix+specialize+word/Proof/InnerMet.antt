@@ -5,9 +5,9 @@ use borrow.Author.Needs.{needs}
 use Rattle.parser.proofs.Ready.{ready-as}
 use Rattle.parser.proofs.InnerRules.{inner-end, inner-string, inner-set}
 use Rattle.parser.proofs.InnerLaws.{expresses-as, ready-here, kind-string, kind-at, kind-name, token-as}
-use Rattle.parser.proofs.+apply+args+arms+braced+inline+item+items+last+list+mark+name+named+pair+parens+parse_expression_choice+parse_expression_inner+parse_expression_sequence+parse_expression_suffix+special+word.Proof.Falls.{falls-on, parse-expression-inner-at, word-below, mark-below, name-below}
+use Rattle.parser.proofs.+apply+args+arms+braced+inline+item+items+list+mark+name+named+pair+parens+parse_expression_choice+parse_expression_inner+parse_expression_sequence+parse_expression_suffix+specialize+word.Proof.Falls.{falls-on, parse-expression-inner-at, word-below, mark-below, name-below}
 use Rattle.parser.proofs.parse_expression_inner.Reads as parse-expression-inner
-use Rattle.parser.proofs.+apply+args+arms+braced+inline+item+items+last+list+mark+name+named+pair+parens+parse_expression_choice+parse_expression_inner+parse_expression_sequence+parse_expression_suffix+special+word.Lts-parse_expression_inner as lts
+use Rattle.parser.proofs.+apply+args+arms+braced+inline+item+items+list+mark+name+named+pair+parens+parse_expression_choice+parse_expression_inner+parse_expression_sequence+parse_expression_suffix+specialize+word.Lts-parse_expression_inner as lts
 use Rattle.parser.proofs.word.Reads as word
 use Rattle.parser.proofs.mark.Reads as mark
 use Rattle.parser.proofs.name.Reads as name

@@ -7,9 +7,9 @@ use Rattle.parser.proofs.Onward.{next-onward}
 use Rattle.parser.proofs.Ready.{arrived-at, arrived-not}
 use Rattle.parser.proofs.InnerLaws.{expresses-as, ready-here, mark-token, paren-refused, paren-read, mark-anon, mark-other}
 use Rattle.tokens.proofs.Told.{arrived-told}
-use Rattle.parser.proofs.+apply+args+arms+braced+inline+item+items+last+list+mark+name+named+pair+parens+parse_expression_choice+parse_expression_inner+parse_expression_sequence+parse_expression_suffix+special+word.Proof.Falls.{falls-past, falls-on, mark-at, inline-below, parens-below}
+use Rattle.parser.proofs.+apply+args+arms+braced+inline+item+items+list+mark+name+named+pair+parens+parse_expression_choice+parse_expression_inner+parse_expression_sequence+parse_expression_suffix+specialize+word.Proof.Falls.{falls-past, falls-on, mark-at, inline-below, parens-below}
 use Rattle.parser.proofs.mark.Reads as mark
-use Rattle.parser.proofs.+apply+args+arms+braced+inline+item+items+last+list+mark+name+named+pair+parens+parse_expression_choice+parse_expression_inner+parse_expression_sequence+parse_expression_suffix+special+word.Lts-mark as lts
+use Rattle.parser.proofs.+apply+args+arms+braced+inline+item+items+list+mark+name+named+pair+parens+parse_expression_choice+parse_expression_inner+parse_expression_sequence+parse_expression_suffix+specialize+word.Lts-mark as lts
 use Rattle.parser.proofs.inline.Reads as inline
 use Rattle.parser.proofs.parens.Reads as parens
 use Rattle.tokens.proofs.next.Reads as next-reads
