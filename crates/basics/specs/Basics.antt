@@ -8,6 +8,7 @@ use mathlib.Core.Bool.{Bool, true, false, _&&_, _||_}
 use mathlib.Core.List.{List, [], _∷_, _++_}
 use mathlib.Core.Option.{Option, none, some}
 use lib.Dec.{eqb, leb}
+use lib.ListN.{length, drop}
 
 infixr 10 if_then_else_
 -- the first where the test holds, the second where it does not
@@ -48,6 +49,10 @@ spells s t = same (letters s) t
 abbrev pub head : List ℕ → ℕ
 head [] = 0
 head (c ∷ cs) = c
+
+-- bytes or words over the front of what was lent; the rest of it is unchanged
+abbrev pub over : List ℕ → List ℕ → List ℕ
+over xs lent = xs ++ drop (length xs) lent
 
 module _ {A : Type 0} where
   -- all pass the test

@@ -18,7 +18,8 @@ use Rattle.spelling.specs.NormalText.{normalText}
 use Rattle.writer.specs.Promise.{tooLong}
 use Rattle.grammar.specs.Reading.{Reading, tree, stopped, reading, longest}
 use Rattle.grammar.specs.Calls as Calls
-use Rattle.grammar.specs.Calls.{over, roomFor, ReadOutcome, readBy, read, NormalOutcome, writeBy, normalBy, normal}
+use Rattle.basics.specs.Basics.{over}
+use Rattle.grammar.specs.Calls.{roomFor, ReadOutcome, readBy, read, NormalOutcome, writeBy, normalBy, normal}
 use Rattle.laws.specs.Demand3.{Accepted}
 use Rattle.laws.proofs.Demand3.{normal-texts-are-accepted, equal-when-trees-agree, agreeing-trees-take-the-same-room}
 use Rattle.laws.proofs.Calls.{Room, wrote, wrote-only}

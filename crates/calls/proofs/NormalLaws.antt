@@ -9,7 +9,7 @@ use lib.Dec.{ltb}
 use lib.ListN.{length, take, drop, length-append, length-take}
 use lib.Seq.{take-append-seam}
 use borrow.Author.Tests.{ltb-true, ltb-false}
-use Rattle.basics.specs.Basics.{if_then_else_}
+use Rattle.basics.specs.Basics.{if_then_else_, over}
 use Rattle.basics.proofs.Tests.{impossible}
 use Rattle.error.specs.Causes.{recordsFull, textsFull, outputFull}
 use Rattle.error.specs.Lines.{Refusal, refusalAt}
@@ -23,7 +23,7 @@ use Rattle.writer.specs.declared.Written.{Written}
 use Rattle.writer.specs.declared.Written.the-variants.{Bytes, TooLong}
 use Rattle.grammar.specs.Reading.{Reading, tree, stopped, reading, longest}
 use Rattle.grammar.specs.Calls as Calls
-use Rattle.grammar.specs.Calls.{over, roomFor, readBy, read, ReadOutcome, writeBy, normalBy, normal}
+use Rattle.grammar.specs.Calls.{roomFor, readBy, read, ReadOutcome, writeBy, normalBy, normal}
 use Rattle.laws.proofs.Accepted.{not-tree}
 use Rattle.calls.specs.Promise.{readOutcome, ReadTo, Few, normalOutcome, WriteTo, NormalTo}
 use Rattle.calls.specs.declared.ReadAnswer.{ReadAnswer}

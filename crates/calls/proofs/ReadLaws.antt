@@ -82,8 +82,8 @@ module _ (s ws ts vs us : List ℕ) (h : length s ≤ longest) (e : check s ≡ 
 
   read-stopped : (r : declared.Refusal) {n p : ℕ} → Stopped s ws ts n p → refusalOf r ≡ refusalAt s n p → readOutcome (Refused r) ws ts ≡ read s ws ts
   read-stopped r (by-text q) f = read-refused s ws ts r (reading-stopped s h e q) f
-  read-stopped r (by-words k) f = no-words s ws ts r (reading-tree s h e (k .gives)) (k .over) (f ∙ rw (k .cause-is, k .place-is))
-  read-stopped r (by-bytes k) f = no-bytes s ws ts r (reading-tree s h e (k .gives)) (k .fits) (k .over) (f ∙ rw (k .cause-is, k .place-is))
+  read-stopped r (by-words k) f = no-words s ws ts r (reading-tree s h e (k .gives)) (k .short) (f ∙ rw (k .cause-is, k .place-is))
+  read-stopped r (by-bytes k) f = no-bytes s ws ts r (reading-tree s h e (k .gives)) (k .fits) (k .short) (f ∙ rw (k .cause-is, k .place-is))
 
   -- by its answer
   module _ (w : Whole) (k : Reads s ws ts vs us w) where

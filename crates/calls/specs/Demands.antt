@@ -15,7 +15,7 @@ use Rattle.spelling.specs.NormalText.{normalText}
 use Rattle.writer.specs.Promise.{tooLong}
 use Rattle.grammar.specs.Reading.{tree, stopped, reading, longest}
 use Rattle.grammar.specs.Calls as Calls
-use Rattle.grammar.specs.Calls.{over}
+use Rattle.basics.specs.Basics.{over}
 use Rattle.calls.specs.Promise.{readAnswer, readOutcome, ReadTo, normalAnswer, normalOutcome, NormalTo, compareAnswer, CompareTo}
 use Rattle.calls.specs.declared.ReadAnswer.{ReadAnswer}
 use Rattle.calls.specs.declared.NormalAnswer.{NormalAnswer}

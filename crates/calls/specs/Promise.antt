@@ -6,7 +6,8 @@ use mathlib.Core.List.{List}
 use lib.ListN.{length}
 use Rattle.error.specs.Promise.{refusalOf}
 use Rattle.grammar.specs.Calls as Calls
-use Rattle.grammar.specs.Calls.{over, ReadOutcome, read, NormalOutcome, writeBy, normal, compare}
+use Rattle.basics.specs.Basics.{over}
+use Rattle.grammar.specs.Calls.{ReadOutcome, read, NormalOutcome, writeBy, normal, compare}
 use Rattle.tree.specs.Stored.{grammarWords, grammarTexts}
 use Rattle.writer.specs.Promise.{Stored}
 use Rattle.calls.specs.declared.ReadAnswer.{ReadAnswer}

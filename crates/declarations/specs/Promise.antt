@@ -40,18 +40,21 @@ pub record PrecGot (s : List ℕ) (t : Current) (k : Option PrecKind) (u : Curre
   pub gives : parsePrecKind (stream s t) ≡ read k (stream s u)
   pub onward : Onward s t u 0
 
+-- what an answer says of the kind of a precedence: it is taken, or there is none, or it is refused with this cause and place
 abbrev pub TakesPrec : List ℕ → Current → PrecTaken → Type 0
 TakesPrec s t (Got k u) = PrecGot s t (precOf k) u
 TakesPrec s t (Refused c p) = parsePrecKind (stream s t) ≡ refused (causeNumber c) p
 
--- what a refusal says
+-- the cause, where the kind of a precedence is refused; `UnexpectedToken` where it is taken or there is none
 abbrev pub precTakenCause : PrecTaken → Cause
 precTakenCause (Refused c p) = c
 precTakenCause (Got k u) = UnexpectedToken
 
+-- the place, where the kind of a precedence is refused; 0 where it is taken or there is none
 abbrev pub precTakenPlace : PrecTaken → ℕ
 precTakenPlace (Refused c p) = p
 precTakenPlace (Got k u) = 0
 
+-- the branch of `@precedence` at top level
 abbrev pub precedenceBranch : PrecDeclaration ℕ → Branch
 precedenceBranch x = declarationBranch (Declaration.precedences x)

@@ -24,6 +24,7 @@ pub record GotSource (s : List ℕ) (t : Current) (a e : ℕ) (u : Current) : Ty
   pub onward : Onward s t u 2
   pub between : e + placed s t ≤ a + placed s u
 
+-- what an answer says of `from` and a string: the source stands in this part of the text, or it is refused with this cause and place
 abbrev pub TakesSource : List ℕ → Current → Taken → Type 0
 TakesSource s t (Got a e u) = GotSource s t a e u
 TakesSource s t (Refused c p) = parseSource (stream s t) ≡ refused (causeNumber c) p
@@ -33,13 +34,14 @@ pub record IdSource : Type 0 where
   pub id : List ℕ
   pub source : List ℕ
 
+-- a name, `from` and a string, which is its source
 unfoldable pub fromSource : Parser ℕ IdSource
 fromSource = do
   n ← parseIdentifier
   s ← parseSource
   pure (record { id = n .name; source = s })
 
--- with the source below it
+-- the branch of a name, of a kind and a start, with its source below it
 abbrev pub fromBranch : (kind start : ℕ) → IdSource → Branch
 fromBranch k p x = branch (named k p (x .id)) (sourceBranch (x .source) ∷ᴮ []ᴮ)
 
@@ -54,6 +56,7 @@ pub record GotId (s : List ℕ) (t : Current) (a e b f : ℕ) (u : Current) : Ty
   pub part : L.Part s b f
   pub room : f + a + placed s t ≤ b + e + placed s u
 
+-- what an answer says of the name that `asName` reads: it stands in this part of the text, or is refused with this cause and place
 abbrev pub TakesId : List ℕ → Current → (a e : ℕ) → Taken → Type 0
 TakesId s t a e (Got b f u) = GotId s t a e b f u
 TakesId s t a e (Refused c p) = asName (partOf s a e) (stream s t) ≡ refused (causeNumber c) p

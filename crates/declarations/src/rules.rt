@@ -1,5 +1,6 @@
 // Rules, names and references: `parse_rule`, `parse_token_reference`.
 use error::Cause;
+use parser::LEVELS;
 use parser::parts;
 use parser::parts::Expressed;
 use parser::parts::Headed;
@@ -25,9 +26,6 @@ ghost use Rattle.error.specs.Promise.{causeNumber};
 ghost use Rattle.notation.specs.Parser.{eat, until, commaOrNot, parseIdentifier};
 ghost use Rattle.notation.specs.Declarations.{parseRule, parseTokenReference, parseNamedNode, names};
 ghost use Rattle.declarations.specs.Promise.{literalAt};
-
-// How many levels a rule's body may have.
-const LEVELS: usize = 64;
 
 // A rule, as a record of a kind.
 pub fn parse_rule(

@@ -5,8 +5,8 @@ use mathlib.Core.Bool.{Bool, _||_}
 use mathlib.Core.List.{List, [], _++_}
 use mathlib.Core.Option.{Option, none, some}
 use lib.Dec.{ltb}
-use lib.ListN.{length, drop}
-use Rattle.basics.specs.Basics.{if_then_else_}
+use lib.ListN.{length}
+use Rattle.basics.specs.Basics.{if_then_else_, over}
 use Rattle.error.specs.Causes.{recordsFull, textsFull, outputFull, notATree}
 use Rattle.error.specs.Lines.{Refusal, lineFeeds, lineStart, lineAt, columnAt, refusalAt}
 use Rattle.tree.specs.Records.{Branch}
@@ -16,10 +16,6 @@ use Rattle.tree.specs.Equality.{structurallyEq}
 use Rattle.tree.specs.Syntax.{GrammarDeclaration}
 use Rattle.spelling.specs.NormalText.{normalText}
 use Rattle.grammar.specs.Reading.{Reading, tree, stopped, reading, longest}
-
--- bytes or words over the front of what was lent; the rest of it is unchanged
-abbrev pub over : List ℕ → List ℕ → List ℕ
-over xs lent = xs ++ drop (length xs) lent
 
 -- ------------------------------------------------------------------ read
 
@@ -32,7 +28,7 @@ roomFor words bytes (tree g) =
     else if ltb bytes (length (grammarTexts g)) then stopped textsFull 0
     else tree g
 
--- how many words and bytes the tree takes, or a refusal; and what records and texts then hold
+-- how many words and bytes the tree takes, or a refusal
 pub data ReadAnswer : Type 0 where
   stored : (words bytes : ℕ) → ReadAnswer
   refused : Refusal → ReadAnswer
@@ -60,7 +56,7 @@ read text records texts = readBy text records texts (roomFor (length records) (l
 
 -- ------------------------------------------------------------------ normal text
 
--- how many bytes the normal text has, or a refusal; and what records, texts and output then hold
+-- how many bytes the normal text has, or a refusal
 pub data NormalAnswer : Type 0 where
   written : (bytes : ℕ) → NormalAnswer
   refused : Refusal → NormalAnswer

@@ -61,8 +61,9 @@ pub fn parse(source: &[u8], records: &mut [u32], texts: &mut [u8]) -> Whole
     requires { ⌜ length (now source) ≤ 0x10000 ⌝ }
     ensures { λ r. ⌜ Reads (now (source .entry)) (now (records .entry)) (now (texts .entry)) (now (records .exit)) (now (texts .exit)) r ⌝ }
 {
-    match tokens::arrive(source, 0) {
-        Arrived::Refused(cause, at) => Whole::Refused(cause, at),
-        Arrived::At(token) => parse_at(source, token, records, texts),
-    }
+    let first = tokens::arrive(source, 0);
+    let Arrived::At(token) = first else {
+        return Whole::Refused(first.cause(), first.place());
+    };
+    parse_at(source, token, records, texts)
 }

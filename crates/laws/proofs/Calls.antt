@@ -8,7 +8,7 @@ use lib.Dec.{ltb}
 use lib.ListN.{length, take, drop}
 use lib.Seq.{take-append-seam}
 use borrow.Author.Tests.{ltb-false}
-use Rattle.basics.specs.Basics.{if_then_else_}
+use Rattle.basics.specs.Basics.{if_then_else_, over}
 use Rattle.basics.proofs.Tests.{impossible, both-false}
 use Rattle.error.specs.Causes.{recordsFull, textsFull, outputFull}
 use Rattle.error.specs.Lines.{Refusal, lineFeeds, lineStart, lineAt, columnAt, refusalAt}
@@ -16,7 +16,7 @@ use Rattle.tree.specs.Syntax.{GrammarDeclaration}
 use Rattle.tree.specs.Stored.{grammarWords, grammarTexts}
 use Rattle.spelling.specs.NormalText.{normalText}
 use Rattle.grammar.specs.Reading.{Reading, tree, stopped, reading, longest}
-use Rattle.grammar.specs.Calls.{over, roomFor, NormalAnswer, written, NormalOutcome, writeBy, normalBy, normal}
+use Rattle.grammar.specs.Calls.{roomFor, NormalAnswer, written, NormalOutcome, writeBy, normalBy, normal}
 use Rattle.laws.specs.Demand3.{Accepted, NormalOfItsOutput}
 use Rattle.laws.proofs.Demand3.{normal-texts-are-accepted, agreeing-trees-take-the-same-room}
 

@@ -35,6 +35,7 @@ module _ {S T : Type 0} (f : S → T) where
   abbrev pub onMarker : ConflictMarker S → ConflictMarker T
   onMarker m = record { start = f (m .start); kind = m .kind; name = m .name }
 
+  -- of expressions, with all below them
   unfoldable mutual
     -- of an expression
     pub onExpression : Expression S → Expression T

@@ -3,11 +3,10 @@
 use Prim.Native.Nat.{ℕ, zero, suc, _+_, _<_}
 use native.Mathlib.Omega.{arith}
 use mathlib.Core.Path.{_≡_, refl, _∙_}
-use mathlib.Core.Bool.{Bool, true, false}
 use mathlib.Core.List.{List, [], _∷_, _++_}
 use mathlib.Core.Option.{Option, none, some}
 use Rattle.lexer.specs.Tokens.{Tokens}
-use Rattle.notation.specs.Parser.{Answer, read, refused, Parser, andThen, _>>=_, pure, choose, size, turns, loop, separate, untilStep, nothing}
+use Rattle.notation.specs.Parser.{Answer, read, refused, Parser, andThen, _>>=_, pure, size, turns, loop, separate, nothing}
 
 -- those before are found, and the whole is what the turns left give from ts on. There are d turns more than tokens.
 pub record Loop {A : Type 0} (step : List A → Parser ℕ (Option A)) (whole : Answer ℕ (List A)) (d : ℕ) (before : List A) (ts : Tokens ℕ) : Type 0 where
@@ -58,34 +57,6 @@ module _ {A : Type 0} (step : List A → Parser ℕ (Option A)) where
         go : (n : ℕ) → size ts + d < n → whole ≡ turns n step before ts → whole ≡ refused c p
         go zero lt q = absurd (omega arith)
         go (suc n) lt q = q ∙ turn-refused n before ts c p e
-
--- ------------------------------------------------------------------ one turn of `until`
-
-module _ {A : Type 0} (stop : Parser ℕ Bool) (between : Parser ℕ (Unit {0})) (item : List A → Parser ℕ A) (before : List A) (ts : Tokens ℕ) where
-  abbrev one : Answer ℕ (Option A)
-  one = untilStep stop between item before ts
-
-  pub until-end : {us : Tokens ℕ} → stop ts ≡ read true us → one ≡ read none us
-  unfolding untilStep _>>=_ andThen choose pure
-  until-end e = rw (untilStep, e)
-
-  pub until-stop-refused : {c p : ℕ} → stop ts ≡ refused c p → one ≡ refused c p
-  unfolding untilStep _>>=_ andThen
-  until-stop-refused e = rw (untilStep, e)
-
-  module _ (e : stop ts ≡ read false ts) where
-    pub until-between-refused : {c p : ℕ} → separate between before ts ≡ refused c p → one ≡ refused c p
-    unfolding untilStep _>>=_ andThen choose
-    until-between-refused f = rw (untilStep, e, andThen, f)
-
-    module _ {us : Tokens ℕ} (f : separate between before ts ≡ read tt us) where
-      pub until-item-refused : {c p : ℕ} → item before us ≡ refused c p → one ≡ refused c p
-      unfolding untilStep _>>=_ andThen choose
-      until-item-refused g = rw (untilStep, e, andThen, f, g)
-
-      pub until-item : {vs : Tokens ℕ} {a : A} → item before us ≡ read a vs → one ≡ read (some a) vs
-      unfolding untilStep _>>=_ andThen choose pure
-      until-item g = rw (untilStep, e, andThen, f, g)
 
 pub separate-nothing : {A : Type 0} (before : List A) (ts : Tokens ℕ) → separate nothing before ts ≡ read tt ts
 unfolding separate pure

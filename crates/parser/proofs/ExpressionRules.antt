@@ -6,9 +6,16 @@ use mathlib.Core.Bool.{Bool, true, false}
 use mathlib.Core.List.{List}
 use Rattle.lexer.specs.Tokens.{Tokens}
 use Rattle.tree.specs.Syntax.{Expression, Prop, SpecializeKind}
-use Rattle.notation.specs.Parser.{Answer, read, refused, Parser, andThen, _>>=_, pure, choose, next, eat, expect}
+use Rattle.notation.specs.Parser.{Answer, read, refused, Parser, andThen, _>>=_, _>>_, pure, choose, next, eat, expect}
 use Rattle.notation.specs.Expressions.{contentBy, referenceOf, parseBracedExpression, parseSpecializeExpression, parseParenthesizedExpression, parseProps}
-use Rattle.parser.specs.Shapes.{specializeHead, secondPart, SpecializeParts, specializeParts}
+use Rattle.parser.specs.Shapes.{specializeHead, SpecializeParts, specializeParts}
+
+-- the second part of a specialize, after the comma, and `>`
+unfoldable pub secondPart : Parser ℕ (Expression ℕ) → Parser ℕ (Expression ℕ)
+secondPart below = do
+  f ← below
+  expect ">"
+  pure f
 
 -- ------------------------------------------------------------------ in braces, and a second part
 

@@ -27,10 +27,10 @@ use Rattle.tree.specs.Syntax.{Identifier, Prop, RepeatKind, ConflictMarkerKind}
 use Rattle.notation.specs.Limits.{repeats}
 use Rattle.notation.specs.Parser.{read, refused, andThen, _>>=_, pure, refuseHere, kind, next, expect, parseIdentifier, loop}
 use Rattle.notation.specs.Expressions.{marker, parseProps, repeatMark, repeatBy, parseRepeat}
-use Rattle.tokens.specs.Promise.{stream, startIn, endIn, markOf, arrival, LiesIn, Lies, Identifies, Expects}
+use Rattle.tokens.specs.Promise.{stream, startIn, endIn, markOf, arrival, LiesIn, Lies, Identifies, Expects, Whole}
 use Rattle.parser.specs.Storing.{Lent, lent, Stores, StoresPlain, node, flat, nodesOf}
 use Rattle.parser.specs.Steps.{Onward, Ready, Gives, Lists}
-use Rattle.parser.specs.Shapes.{IsToken, repeatedOf, repeatNodes, parseParams, parseHead, Heads, parseMarker, YieldsMarker, specializeHead, SpecializeHeads, endsBy, isStd, sequenceShape, ReadyContent, StoredContent, InlinePart}
+use Rattle.parser.specs.Shapes.{IsToken, repeatedOf, repeatNodes, parseParams, parseHead, Heads, parseMarker, YieldsMarker, specializeHead, SpecializeHeads, endsBy, isStd, sequenceShape, ReadyContent, StoredContent}
 use Rattle.tokens.specs.declared.Current.{Current}
 use Rattle.tokens.specs.declared.Current.the-variants.{Token, End}
 use Rattle.tokens.specs.declared.Arrived.{Arrived}
@@ -291,7 +291,7 @@ module _ {s : List ℕ} {p n x a b : ℕ} {shape : Shape} (r : ReadyContent s p 
 
 -- ------------------------------------------------------------------ inline rules
 
-pub inline-part : {s : List ℕ} {part : Part} {a e : ℕ} → InlinePart s part → part ≡ From a e → L.Part s a e
+pub inline-part : {s : List ℕ} {part : Part} {a e : ℕ} → Whole s part → part ≡ From a e → L.Part s a e
 inline-part h q = rw q at h
 
 -- what storing a text that is no longer than the source asks

@@ -26,10 +26,10 @@ use Rattle.tree.specs.Syntax.{Expression, Prop, expressions}
 use Rattle.tree.proofs.Encoded.{texts-append}
 use Rattle.notation.specs.Parser.{Answer, read, refused, Parser, andThen, _>>=_, pure, next, eat, comma, size, loop, untilStep}
 use Rattle.notation.specs.Expressions.{parseBracedExpression, parseArguments, choiceAt, parseInlineRuleExpression, parseParenthesizedExpression, parseExpressionInner}
-use Rattle.tokens.specs.Promise.{stream, startIn, endIn, namePart, atPart, stringPart, markOf, nameOf, arrival, LiesIn, Lies}
+use Rattle.tokens.specs.Promise.{stream, startIn, endIn, namePart, atPart, stringPart, markOf, nameOf, arrival, LiesIn, Lies, Whole}
 use Rattle.parser.specs.Storing.{Lent, lent, Stores, node, flat, nodesOf}
 use Rattle.parser.specs.Steps.{placed, Onward, Lays, Ready, Lists, stepBy, Opens}
-use Rattle.parser.specs.Shapes.{IsToken, IsMark, Behind, isStd, Expresses, Yields, YieldsBraced, ExpressesBraced, nameArguments, Heads, inlineText, inlineBytes, InlineName, InlinePart, ReadyInline}
+use Rattle.parser.specs.Shapes.{IsToken, IsMark, Behind, isStd, Expresses, Yields, YieldsBraced, ExpressesBraced, nameArguments, Heads, inlineText, inlineBytes, InlineName, ReadyInline}
 use Rattle.tokens.specs.declared.Current.{Current}
 use Rattle.tokens.specs.declared.Current.the-variants.{Token, End}
 use Rattle.tokens.specs.declared.Arrived.{Arrived}
@@ -241,7 +241,7 @@ module _ {s : List ℕ} {t : Current} {n x : ℕ} (u : Current) where
   inline-on (From a e) r w = onward-least 0 (w .1 .on) (omega arith)
   inline-on Nothing r w = rw (w .0) (rw (w .0) at (ready-here r))
 
-  inline-part : (name : Part) → Ready s t n x → InlineName s t name u → InlinePart s name
+  inline-part : (name : Part) → Ready s t n x → InlineName s t name u → Whole s name
   inline-part (From a e) r w = name-in r (w .0) .part
   inline-part Nothing r w = tt
 

@@ -110,4 +110,7 @@ module _ (D : Answer ℕ SpecializeParts) (s : List ℕ) (t : Current) (a : Lent
 
 module _ (s : List ℕ) (t : Current) (start p : ℕ) (shape : Shape) (a : Lent) (ws ts : List ℕ) (r : Parsed) (h : StoresContent s t start p shape a ws ts r) where
   pub content-read : {u : Current} {n x : ℕ} → r ≡ P.Done u n x → StoredContent s p shape a (lent n ws x ts)
-  content-read e = rw e at h
+  content-read e = second (rw e at h)
+    where
+      second : {A B : Type 0} → A × B → B
+      second k = k .1

@@ -72,22 +72,25 @@ pub record Gives {A : Type 0} (D : Answer ℕ A) (g : A → List Node) (s : List
   pub onward : Onward s t u 1
   pub lays : Lays s t u 0 (g value) a b
 
+-- what an answer says of D: it is a value whose nodes are stored, or it is this refusal
 abbrev pub Parses : {A : Type 0} → Answer ℕ A → (A → List Node) → List ℕ → Current → Lent → (words texts : List ℕ) → Parsed → Type 0
 Parses D g s t a ws ts (P.Done u n x) = Gives D g s t a u (lent n ws x ts)
 Parses D g s t a ws ts (P.Refused c p) = D ≡ refused (causeNumber c) p
 
--- D is a value whose nodes are stored, or nothing more is found
+-- D finds one more value, whose nodes are stored
 pub record Finds {A : Type 0} (D : Answer ℕ (Option A)) (g : A → List Node) (s : List ℕ) (t : Current) (a : Lent) (u : Current) (b : Lent) : Type 0 where
   pub value : A
   pub gives : D ≡ read (some value) (stream s u)
   pub onward : Onward s t u 1
   pub lays : Lays s t u 0 (g value) a b
 
+-- D finds nothing more: no token is taken, and the lent words and bytes are as they were
 pub record FindsNone {A : Type 0} (D : Answer ℕ (Option A)) (s : List ℕ) (t : Current) (a : Lent) (words texts : List ℕ) : Type 0 where
   pub gives : D ≡ read none (stream s t)
   pub same-words : words ≡ a .words
   pub same-texts : texts ≡ a .texts
 
+-- what a turn's answer says of D: it finds one more value, whose nodes are stored, or nothing more, or it is this refusal
 abbrev pub ParsesTurn : {A : Type 0} → Answer ℕ (Option A) → (A → List Node) → List ℕ → Current → Lent → (words texts : List ℕ) → Turn → Type 0
 ParsesTurn D g s t a ws ts (T.More u n x) = Finds D g s t a u (lent n ws x ts)
 ParsesTurn D g s t a ws ts T.Over = FindsNone D s t a ws ts
@@ -95,7 +98,7 @@ ParsesTurn D g s t a ws ts (T.Refused c p) = D ≡ refused (causeNumber c) p
 
 -- ------------------------------------------------------------------ lists
 
--- D is a list of so many
+-- D is a list of so many, whose nodes are stored
 pub record Lists {A : Type 0} (D : Answer ℕ (List A)) (g : A → List Node) (s : List ℕ) (t : Current) (step : ℕ) (a : Lent) (u : Current) (b : Lent) (count : ℕ) : Type 0 where
   pub items : List A
   pub gives : D ≡ read items (stream s u)
@@ -103,16 +106,18 @@ pub record Lists {A : Type 0} (D : Answer ℕ (List A)) (g : A → List Node) (s
   pub onward : Onward s t u step
   pub lays : Lays s t u 0 (flat g items) a b
 
+-- what an answer says of D: it is a list of so many, whose nodes are stored, or it is this refusal
 abbrev pub ParsesList : {A : Type 0} → Answer ℕ (List A) → (A → List Node) → List ℕ → Current → (step : ℕ) → Lent → (words texts : List ℕ) → Listed → Type 0
 ParsesList D g s t step a ws ts (L.Done u n x count) = Lists D g s t step a u (lent n ws x ts) count
 ParsesList D g s t step a ws ts (L.Refused c p) = D ≡ refused (causeNumber c) p
 
--- what stands before the next of so many items
+-- what stands between two items: a comma that must be there, one that may, or nothing
 abbrev pub betweenBy : Comma → Parser ℕ (Unit {0})
 betweenBy Must = comma
 betweenBy May = commaOrNot
 betweenBy No = nothing
 
+-- what stands before the next item, after so many: before the first nothing
 abbrev pub separator : Comma → (count : ℕ) → Parser ℕ (Unit {0})
 separator b zero = pure tt
 separator b (suc n) = betweenBy b
@@ -123,21 +128,24 @@ opening m b count = do
   done ← eat m
   choose done (pure true) (separator b count >> pure false)
 
+-- an answer as the definition gives it: whether the list is closed, and the tokens that are left, or a refusal
 abbrev pub opened : List ℕ → Opened → Answer ℕ Bool
 opened s (O.Item u) = read false (stream s u)
 opened s (O.Closed u) = read true (stream s u)
 opened s (O.Refused c p) = refused (causeNumber c) p
 
--- a comma that must be there is a step
+-- how many bytes and tokens are taken at least between two items: one for a comma that must be there
 abbrev pub commaStep : Comma → ℕ
 commaStep Must = 1
 commaStep May = 0
 commaStep No = 0
 
+-- how many bytes and tokens are taken at least before the next item, after so many: none before the first
 abbrev pub stepBy : Comma → (count : ℕ) → ℕ
 stepBy b zero = 0
 stepBy b (suc n) = commaStep b
 
+-- the token that is arrived at lies at least `step` further on; of a refusal nothing is said
 abbrev pub ArrivesOn : List ℕ → Current → (step : ℕ) → Arrived → Type 0
 ArrivesOn s t step (At u) = Onward s t u step
 ArrivesOn s t step (Refused c p) = Unit {0}
@@ -147,29 +155,35 @@ pub record Separates (s : List ℕ) (t : Current) (between : Parser ℕ (Unit {0
   pub takes : between (stream s t) ≡ arrival s r
   pub on : ArrivesOn s t step r
 
+-- how far on the next token lies at least: a step for the closing mark or a comma that must be there; of a refusal nothing is said
 abbrev pub OpensOn : List ℕ → Current → Comma → ℕ → Opened → Type 0
 OpensOn s t b count (O.Item u) = Onward s t u (stepBy b count)
 OpensOn s t b count (O.Closed u) = Onward s t u 1
 OpensOn s t b count (O.Refused c p) = Unit {0}
 
+-- the front of a list's turn, whose closing mark has the code `close`, gives this answer, and comes as far on as `OpensOn` says
 pub record Opens (s : List ℕ) (t : Current) (close : ℕ) (b : Comma) (count : ℕ) (r : Opened) : Type 0 where
   pub opens : (m : Char) → code m ≡ close → opening m b count (stream s t) ≡ opened s r
   pub on : (m : Char) → code m ≡ close → OpensOn s t b count r
 
 -- ------------------------------------------------------------------ what a refusal says
 
+-- the cause, where what is read is refused; `UnexpectedToken` where it is stored
 abbrev pub parsedCause : Parsed → Cause
 parsedCause (P.Refused c p) = c
 parsedCause (P.Done u n x) = UnexpectedToken
 
+-- the place, where what is read is refused; 0 where it is stored
 abbrev pub parsedPlace : Parsed → ℕ
 parsedPlace (P.Refused c p) = p
 parsedPlace (P.Done u n x) = 0
 
+-- the cause, where a list is refused; `UnexpectedToken` where it is stored
 abbrev pub listedCause : Listed → Cause
 listedCause (L.Refused c p) = c
 listedCause (L.Done u n x count) = UnexpectedToken
 
+-- the place, where a list is refused; 0 where it is stored
 abbrev pub listedPlace : Listed → ℕ
 listedPlace (L.Refused c p) = p
 listedPlace (L.Done u n x count) = 0
@@ -187,9 +201,10 @@ abbrev pub PropName : List ℕ → Current → (at a e : ℕ) → Type 0
 PropName s t zero a e = (atOf t ≡ Nothing) × (nameOf t ≡ From a e)
 PropName s t (suc n) a e = (n ≡ 0) × (atOf t ≡ From a e)
 
--- the value of a prop, after its name, and props after their bracket
+-- the value of a prop, after its name; no parts where no `=` follows
 unfoldable pub parseValue : Parser ℕ (List (PropPart ℕ))
 parseValue = eat "=" >>= λ equals. choose equals (loop parsePart) (pure [])
 
+-- props up to their `]`, after their `[`
 abbrev pub propsList : Parser ℕ (List (Prop ℕ))
 propsList = until (eat "]") comma (λ _. parseProp)

@@ -20,6 +20,7 @@ pub record Lent : Type 0 where
   pub x : ℕ
   pub texts : List ℕ
 
+-- these words and bytes, of which n words and x bytes are taken
 abbrev pub lent : (n : ℕ) → (words : List ℕ) → (x : ℕ) → (texts : List ℕ) → Lent
 lent n ws x ts = record { n = n; words = ws; x = x; texts = ts }
 

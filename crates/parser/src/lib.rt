@@ -35,7 +35,10 @@ ghost use Rattle.tokens.specs.Promise.{stream, startIn, nameOf, atOf};
 ghost use Rattle.tokens.specs.declared.Part.the-variants.{From};
 ghost use Rattle.parser.specs.Storing.{lent, nodesOf};
 ghost use Rattle.parser.specs.Steps.{Onward, Ready, ParsesList};
-ghost use Rattle.parser.specs.Shapes.{IsToken, IsMark, Behind, inlineText, InlineName, secondPart, specializeParts, ParsesParts, named, nameArguments, argumentsList, ReadyArms, Expresses, ExpressesBraced, ExpressesArms, ExpressesItem, ExpressesItems};
+ghost use Rattle.parser.specs.Shapes.{IsToken, IsMark, Behind, inlineText, InlineName, specializeParts, ParsesParts, named, nameArguments, argumentsList, ReadyArms, Expresses, ExpressesBraced, ExpressesArms, ExpressesItem, ExpressesItems};
+
+// How many levels an expression in braces may have.
+pub const LEVELS: usize = 64;
 
 // `parse_braced_expression`
 pub fn braced(

@@ -98,7 +98,8 @@ pub enum ItemRead {
     Refused(Cause, usize),
 }
 
-// The items of a sequence are stored, with how many markers and how many expressions, and the start and the shape of the last expression.
+// The items of a sequence are stored, with how many markers and how many expressions, and the start and the shape of the
+// expression where it is the only one.
 pub enum ItemsRead {
     Done(Current, usize, usize, usize, usize, usize, Shape),
     Refused(Cause, usize),

@@ -47,7 +47,7 @@ use Rattle.declarations.proofs.RuleReads.{levels-are}
 use Rattle.reader.specs.Groups.{groupsOf, Gathers}
 use Rattle.reader.specs.Places.{placeIn, groupAt}
 use Rattle.reader.specs.Blocks.{MemberOf, memberOf, commaOf, kindsOf, kindOf, branchesOf, membersOf, placeOf, FirstIs, Roomy}
-use Rattle.reader.specs.Directives.{past, localAt, tokensBranch, localBranch, SetOf, externalSet, setNodes, skips, HoldsTop, Scoping, Scopes, SeenIs, Declares, DeclaresTo}
+use Rattle.reader.specs.Directives.{past, localAt, tokensBranch, localBranch, SetOf, externalSet, setNodes, skips, Scoping, Scopes, SeenIs, Declares, DeclaresTo}
 use Rattle.reader.specs.declared.blocks.Block.{Block}
 use Rattle.reader.specs.declared.directives.Seen.{Seen}
 use Rattle.reader.specs.declared.directives.Declared.{Declared}
@@ -382,6 +382,10 @@ skips-halt ts e = rw e
 skips-at : (ts : Tokens ℕ) {us : Tokens ℕ} → expect "{" ts ≡ read tt us → skips ts ≡ membersOf Skip us
 unfolding _>>=_ andThen
 skips-at ts e = rw e
+
+-- whether a block of a scoped skip that is read has a top rule
+abbrev pub HoldsTop : List ℕ → Current → Bool → Type 0
+HoldsTop s t r = (ms : List (SkipMember ℕ)) (us : Tokens ℕ) → skips (stream s t) ≡ read ms us → not (isEmpty (picked skipTopRule ms)) ≡ r
 
 -- those that are read are those that the first group's size counts
 pub first-top : (s : List ℕ) (t : Current) (r : Arrived) → Expects s t 0x7B r → {u : Current} → r ≡ At u → {n : ℕ} → FirstIs Skip s u n → HoldsTop s t (not (eqb n 0))

@@ -20,7 +20,7 @@ use Rattle.parser.proofs.Lists.{flat-append}
 use Rattle.parser.proofs.Ready.{nodes-branch, nodes-each, count-each}
 use Rattle.reader.specs.Groups.{wants, chosen, allOf, groupsOf}
 use Rattle.reader.specs.Directives.{memberKind, memberBranches}
-use Rattle.reader.specs.Whole.{lastNames, declaredKinds}
+use Rattle.reader.specs.Whole.{lastNames}
 use Rattle.reader.proofs.GroupPicks.{branchOf, picked-nodes, picked-length}
 
 -- ------------------------------------------------------------------ one member
@@ -106,6 +106,10 @@ same-more k w e {ks} {ms} f =
           ∙ rw (p, z, f .stored) (sym (flat-append (nodesOf declarationBranch) (ofKind k (picked declared ms)) (groups ks (picked declared ms))));
       counted = omega arith;
     }
+
+-- the kinds of declarations, in the order of their groups
+abbrev pub declaredKinds : List ℕ
+declaredKinds = 2 ∷ 3 ∷ 8 ∷ 12 ∷ 14 ∷ 16 ∷ 18 ∷ 19 ∷ 20 ∷ 22 ∷ 23 ∷ []
 
 declared-same : (ms : List (Member ℕ)) → Same declaredKinds ms
 declared-same ms =

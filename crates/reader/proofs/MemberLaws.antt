@@ -63,7 +63,7 @@ module _ (k : ℕ) where
 module _ (b : Block) (free : Bool) {A : Type 0} (D : Answer ℕ A) (f : A → Branch) (make : A → MemberOf b) (k : ℕ) (s : List ℕ) (t u : Current) (a : Lent) (ws ts : List ℕ)
     (reads : (before : List (MemberOf b)) → Free b before free → memberOf b before (stream s t) ≡ andThen D (λ x. pure (make x)))
     (kinds : (x : A) → kindOf b (make x) ≡ k) (branches : (x : A) → branchesOf b (make x) ≡ f x ∷ []) (o : Onward s t u 0) where
-  joined-by : (r : Parsed) → Parses D (nodesOf f) s u a ws ts r → JoinsTo b 0 free s t a ws ts (oneOf k r)
+  joined-by : (r : Parsed) → Parses D (nodesOf f) s u a ws ts r → JoinsTo b free s t a ws ts (oneOf k r)
   unfolding andThen pure
   joined-by (P.Done v n x) g =
       let w = o .ahead in
@@ -78,7 +78,7 @@ module _ (b : Block) (free : Bool) {A : Type 0} (D : Answer ℕ A) (f : A → Br
   joined-by (P.Refused c p) g = λ before h. reads before h ∙ rw g
 
   -- what was read from the token u on is a member from the token t on
-  pub joined : {j : Joined} (r : Parsed) → j ≡ oneOf k r → Parses D (nodesOf f) s u a ws ts r → JoinsTo b 0 free s t a ws ts j
+  pub joined : {j : Joined} (r : Parsed) → j ≡ oneOf k r → Parses D (nodesOf f) s u a ws ts r → JoinsTo b free s t a ws ts j
   joined r q g = rw q (joined-by r g)
 
 -- ------------------------------------------------------------------ a word after an `@`
@@ -132,7 +132,7 @@ module _ (before : List (ExternalMember ℕ)) (ts : Tokens ℕ) where
 
 -- a list of conflicts is one member with a branch for each name
 pub joined-names : {free : Bool} {s : List ℕ} {t u v : Current} {a : Lent} {n x count : ℕ} {ws ts : List ℕ} → eatAt "conflict" (stream s t) ≡ read true (stream s u) → Onward s t u 0
-    → Lists (names (stream s u)) (nodesOf (nameBranch 17)) s u 2 a v (lent n ws x ts) count → Joins ExternalTokens 0 free s t a v (lent n ws x ts) count 17
+    → Lists (names (stream s u)) (nodesOf (nameBranch 17)) s u 2 a v (lent n ws x ts) count → Joins ExternalTokens free s t a v (lent n ws x ts) count 17
 unfolding andThen pure
 joined-names {s = s} {t} e o l =
     let w = o .ahead in
@@ -220,8 +220,8 @@ some-before B.Skip free = record { members = []; is = tt }
 
 module _ (b : Block) (free : Bool) (s : List ℕ) (t : Current) where
   -- by its variant
-  module _ (want : ℕ) (a : Lent) (ws ts : List ℕ) (j : Joined) (h : JoinsTo b want free s t a ws ts j) where
-    pub joined-at : {u : Current} {n x count k : ℕ} → j ≡ Done u n x count k → Joins b want free s t a u (lent n ws x ts) count k
+  module _ (a : Lent) (ws ts : List ℕ) (j : Joined) (h : JoinsTo b free s t a ws ts j) where
+    pub joined-at : {u : Current} {n x count k : ℕ} → j ≡ Done u n x count k → Joins b free s t a u (lent n ws x ts) count k
     joined-at q = rw q at h
 
     pub joined-not : {c : Cause} {p : ℕ} → j ≡ Refused c p → (before : List (MemberOf b)) → Free b before free → memberOf b before (stream s t) ≡ refused (causeNumber c) p

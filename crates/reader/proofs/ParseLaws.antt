@@ -34,14 +34,14 @@ use Rattle.parser.proofs.Ready.{arrived-at, arrived-not, flat-length}
 use Rattle.reader.specs.Groups.{allOf, groupsOf}
 use Rattle.reader.specs.Directives.{memberKind, memberBranches}
 use Rattle.reader.specs.Places.{Begins, Blank}
-use Rattle.reader.specs.Whole.{members, lastNames, declaredKinds, storedKinds, HasNames, Names, NamesTo, Passes, PassesTo, Sizes, Known, First, Stopped, by-text, by-words, by-bytes, Reads, groupCount}
+use Rattle.reader.specs.Whole.{members, lastNames, storedKinds, HasNames, Names, NamesTo, Passes, PassesTo, Sizes, Known, First, Stopped, by-text, by-words, by-bytes, Reads, groupCount}
 use Rattle.reader.specs.declared.whole.Noted.{Noted}
 use Rattle.reader.specs.declared.whole.Passed.{Passed}
 use Rattle.reader.specs.declared.whole.Passed.the-variants as P
 use Rattle.reader.specs.declared.whole.Whole.{Whole}
 use Rattle.reader.proofs.GroupSizes.{Weight, nodes-of, bytes-of, groups-next, groups-weigh}
 use Rattle.parser.proofs.Stored.{words-length}
-use Rattle.reader.proofs.GrammarGroups.{top-one, grammarChildren, grammar-nodes}
+use Rattle.reader.proofs.GrammarGroups.{declaredKinds, top-one, grammarChildren, grammar-nodes}
 
 -- ------------------------------------------------------------------ sizes
 
@@ -265,7 +265,7 @@ module _ {s : List ℕ} {t : Current} (first : First s t) where
           stopped-words i =
               let e = measured-words in
               let k = ap length v in
-              (by-words (record { tree = grammarAt; rest = stream s last; gives = whole-read has-top; over = omega arith; cause-is = refl; place-is = refl }), v, u)
+              (by-words (record { tree = grammarAt; rest = stream s last; gives = whole-read has-top; short = omega arith; cause-is = refl; place-is = refl }), v, u)
 
           pub stopped-bytes : m + 7 ≤ length vs → length us < y → Stopped s ws ts textsFull 0 × (vs ≡ ws) × (us ≡ ts)
           stopped-bytes i j =
@@ -273,7 +273,7 @@ module _ {s : List ℕ} {t : Current} (first : First s t) where
               let f = measured-bytes in
               let k = ap length v in
               let l = ap length u in
-              (by-bytes (record { tree = grammarAt; rest = stream s last; gives = whole-read has-top; fits = omega arith; over = omega arith; cause-is = refl; place-is = refl }), v, u)
+              (by-bytes (record { tree = grammarAt; rest = stream s last; gives = whole-read has-top; fits = omega arith; short = omega arith; cause-is = refl; place-is = refl }), v, u)
 
         -- there is room for all
         pub all-known : Blank groupCount ns → Blank groupCount xs → m + 7 ≤ length ws → y ≤ length ts → Known s t last noted (count + named) ns₁ xs₁ ws ts

@@ -48,11 +48,11 @@ begins-ready b p =
     record { lies = b .lies; small = omega arith; room = omega arith; space = omega arith }
 
 module _ {b : Block} {free : Bool} {s : List ℕ} {t : Current} {n x : ℕ} {ws ts : List ℕ} {u : Current} {m y : ℕ} {vs us : List ℕ} {count kind : ℕ}
-    (j : Joins b 0 free s t (lent n ws x ts) u (lent m vs y us) count kind) where
+    (j : Joins b free s t (lent n ws x ts) u (lent m vs y us) count kind) where
   pub settled-on : (n ≤ m) × (x ≤ y)
   settled-on = let a = j .lays .stores .words-end in let b = j .lays .stores .texts-end in (omega arith, omega arith)
 
-  abbrev settled-measured : Joins b 0 free s t (lent 0 [] 0 []) u (lent (m - n) [] (y - x) []) count kind
+  abbrev settled-measured : Joins b free s t (lent 0 [] 0 []) u (lent (m - n) [] (y - x) []) count kind
   settled-measured = record { value = j .value; gives = j .gives; onward = j .onward; kinds = j .kinds; counted = j .counted; lays = lays-alone (j .lays) }
 
   module _ {p : ℕ} (at : p ≡ placeIn (kindsOf b) (memberAhead b free (stream s t))) where
@@ -98,12 +98,12 @@ place-few Skip (SkipMember.rule x) = omega arith
 
 -- the members so far are read and stored
 pub record Spreading (b : Block) (s : List ℕ) (t₀ : Current) (ps qs ps₁ qs₁ ws ts vs us : List ℕ) (t : Current) (n x count children : ℕ) (free : Bool) : Type 0 where
-  pub membering : Membering b 0 s t₀ (lent 0 [] 0 []) t (lent n [] x []) count children free
+  pub membering : Membering b s t₀ (lent 0 [] 0 []) t (lent n [] x []) count children free
   pub fills : Fills (placeOf b) (branchesOf b) blockCount (membering .listing .items) ps qs ps₁ qs₁ ws ts vs us
 
 pub spreading-start : (b : Block) (s : List ℕ) (t : Current) (ps qs ws ts : List ℕ) → LiesIn s 0 t → Spreading b s t ps qs ps qs ws ts ws ts t 0 0 0 0 true
 unfolding membering-start listing-start
-spreading-start b s t ps qs ws ts l = record { membering = membering-start b 0 s t (lent 0 [] 0 []) l; fills = fills-none (placeOf b) (branchesOf b) blockCount ps qs ws ts }
+spreading-start b s t ps qs ws ts l = record { membering = membering-start b s t (lent 0 [] 0 []) l; fills = fills-none (placeOf b) (branchesOf b) blockCount ps qs ws ts }
 
 module _ {b : Block} {s : List ℕ} {t₀ : Current} {ps qs ps₁ qs₁ ws ts vs us : List ℕ} {t : Current} {n x count children : ℕ} {free : Bool}
     (p : Spreading b s t₀ ps qs ps₁ qs₁ ws ts vs us t n x count children free) where
@@ -137,7 +137,7 @@ module _ {b : Block} {s : List ℕ} {t₀ : Current} {ps qs ps₁ qs₁ ws ts vs
 
     module _ {u : Current} (e : r ≡ O.Item u) {ps₂ qs₂ vs₂ us₂ : List ℕ} {v : Current} {i y more kind : ℕ} (g : Begins blockCount 0x28000000 s t₀ ps qs) (j : Settles b free s u ps₁ qs₁ ps₂ qs₂ vs us vs₂ us₂ v i y more kind) where
       -- behind what is taken already
-      abbrev behind : Joins b 0 free s u (lent n [] x []) v (lent (n + i) [] (x + y) []) more kind
+      abbrev behind : Joins b free s u (lent n [] x []) v (lent (n + i) [] (x + y) []) more kind
       behind =
           let d = j .joins in
           record {

@@ -28,7 +28,8 @@ use Rattle.parser.proofs.Stored.{words-length}
 use Rattle.reader.specs.Groups.{allOf}
 use Rattle.reader.specs.Places.{sum, linedUp, Fills, Begins}
 use Rattle.reader.specs.Directives.{memberKind, memberBranches}
-use Rattle.reader.specs.Whole.{lastNames, storedKinds, memberPlace, HasNames, Names, NamesTo, NamedIs, Passes, Known, Read, onto, groupCount}
+use Rattle.reader.specs.Whole.{lastNames, storedKinds, memberPlace, HasNames, Names, NamesTo, NamedIs, Passes, Known, Read, groupCount}
+use Rattle.basics.specs.Basics.{over}
 use Rattle.reader.specs.declared.whole.Noted.{Noted}
 use Rattle.reader.proofs.GroupSizes.{number, nodes-of, bytes-of, groups-weigh}
 use Rattle.reader.proofs.Gathered.{together}
@@ -40,7 +41,7 @@ use Rattle.reader.proofs.WholeFilled.{stored-positive, firstOf, groupOf
 use Rattle.reader.proofs.ParseLaws.{words-of, texts-of, top-weighs, grammar-words, grammar-bytes, grammar-read}
 
 -- written from the first on
-at-front : (bs out : List ℕ) → length bs ≤ length out → written out 0 bs ≡ onto bs out
+at-front : (bs out : List ℕ) → length bs ≤ length out → written out 0 bs ≡ over bs out
 at-front bs out h = let e : 0 + length bs ≡ length bs = omega arith in written-in out 0 bs (omega arith) ∙ rw e
 
 module _ {s : List ℕ} {t last : Current} {noted : Noted} {count : ℕ} {ps qs ws ts : List ℕ} (z : length s ≤ 0x10000) (l : LiesIn s 0 t) (known : Known s t last noted count ps qs ws ts) where

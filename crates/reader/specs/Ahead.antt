@@ -20,6 +20,7 @@ externalKind t =
     else if says "propSource" t then 19
     else 0
 
+-- by the token after `@external`; 0 where that is refused
 unfoldable pub externalAhead : Answer ℕ (Unit {0}) → ℕ
 externalAhead (read u ts) = externalKind (nameIn (kindOf ts))
 externalAhead (refused c p) = 0
@@ -42,6 +43,7 @@ keywordKind external t =
     else if says "detectDelim" t then 1
     else plainKind t
 
+-- the kind of the declaration that begins at the current token
 unfoldable pub kindAhead : Tokens ℕ → ℕ
 kindAhead ts = keywordKind (externalAhead (next ts)) (atIn (kindOf ts))
 
@@ -60,5 +62,6 @@ memberKindBy B.ExternalTokens free at string = if says "conflict" at then 17 els
 memberKindBy B.Specializer free at string = 13
 memberKindBy B.Skip free at string = if says "top" at then 2 else 3
 
+-- the kind of the member of a block that begins at the current token; `free`: an `@else` still makes a fallback
 unfoldable pub memberAhead : Block → (free : Bool) → Tokens ℕ → ℕ
 memberAhead b free ts = memberKindBy b free (atIn (kindOf ts)) (stringIn (kindOf ts))

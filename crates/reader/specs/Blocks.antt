@@ -26,14 +26,14 @@ use Rattle.parser.specs.declared.props.Parsed.{Parsed}
 use Rattle.parser.specs.declared.props.Parsed.the-variants as P
 use Rattle.parser.specs.declared.props.Listed.{Listed}
 use Rattle.parser.specs.declared.props.Listed.the-variants as L
-use Rattle.reader.specs.Groups.{chosen, allOf, Gathers}
+use Rattle.reader.specs.Groups.{allOf, Gathers}
 use Rattle.reader.specs.Places.{placeIn, groupAt, Fills}
 use Rattle.reader.specs.declared.blocks.Block.{Block}
 use Rattle.reader.specs.declared.blocks.Block.the-variants.{Tokens, LocalTokens, ExternalTokens, Specializer, Skip}
 use Rattle.reader.specs.declared.blocks.Joined.{Joined}
 use Rattle.reader.specs.declared.blocks.Joined.the-variants.{Done, Refused}
 
--- what stands in a block, and how it is read
+-- what stands in a block
 abbrev pub MemberOf : Block → Type 0
 MemberOf Tokens = TokenMember ℕ
 MemberOf LocalTokens = LocalMember ℕ
@@ -41,6 +41,7 @@ MemberOf ExternalTokens = ExternalMember ℕ
 MemberOf Specializer = ExternalMember ℕ
 MemberOf Skip = SkipMember ℕ
 
+-- how a member of a block is read, given those before it
 abbrev pub memberOf : (b : Block) → List (MemberOf b) → Parser ℕ (MemberOf b)
 memberOf Tokens = parseTokenMember
 memberOf LocalTokens = parseLocalMember
@@ -128,18 +129,19 @@ abbrev pub oneOf : (kind : ℕ) → Parsed → Joined
 oneOf k (P.Done u n x) = Done u n x 1 k
 oneOf k (P.Refused c p) = Refused c p
 
--- a member is read whatever stands before it, and its branches are stored if its kind is wanted
-pub record Joins (b : Block) (want : ℕ) (free : Bool) (s : List ℕ) (t : Current) (a : Lent) (u : Current) (c : Lent) (count kind : ℕ) : Type 0 where
+-- a member is read whatever stands before it, and its branches are stored
+pub record Joins (b : Block) (free : Bool) (s : List ℕ) (t : Current) (a : Lent) (u : Current) (c : Lent) (count kind : ℕ) : Type 0 where
   pub value : MemberOf b
   pub gives : (before : List (MemberOf b)) → Free b before free → memberOf b before (stream s t) ≡ read value (stream s u)
   pub onward : Onward s t u 1
   pub kinds : kindOf b value ≡ kind
-  pub counted : length (chosen (kindOf b) (branchesOf b) want value) ≡ count
-  pub lays : Lays s t u 0 (flat nodes (chosen (kindOf b) (branchesOf b) want value)) a c
+  pub counted : length (branchesOf b value) ≡ count
+  pub lays : Lays s t u 0 (flat nodes (branchesOf b value)) a c
 
-abbrev pub JoinsTo : (b : Block) → (want : ℕ) → (free : Bool) → List ℕ → Current → Lent → (words texts : List ℕ) → Joined → Type 0
-JoinsTo b w f s t a ws ts (Done u n x count kind) = Joins b w f s t a u (lent n ws x ts) count kind
-JoinsTo b w f s t a ws ts (Refused c p) = (before : List (MemberOf b)) → Free b before f → memberOf b before (stream s t) ≡ refused (causeNumber c) p
+-- what an answer says of a member, whatever stands before it: it is read and stored, or it is this refusal
+abbrev pub JoinsTo : (b : Block) → (free : Bool) → List ℕ → Current → Lent → (words texts : List ℕ) → Joined → Type 0
+JoinsTo b f s t a ws ts (Done u n x count kind) = Joins b f s t a u (lent n ws x ts) count kind
+JoinsTo b f s t a ws ts (Refused c p) = (before : List (MemberOf b)) → Free b before f → memberOf b before (stream s t) ≡ refused (causeNumber c) p
 
 -- where a function may begin that reads a part of the text more than once: the text is short, and half of the room is left
 pub record Roomy (s : List ℕ) (t : Current) (n x : ℕ) : Type 0 where
@@ -154,17 +156,19 @@ pub record Roomy (s : List ℕ) (t : Current) (n x : ℕ) : Type 0 where
 abbrev pub placeOf : (b : Block) → MemberOf b → ℕ
 placeOf b m = placeIn (kindsOf b) (kindOf b m)
 
+-- how many groups are kept for a block: as many as `@tokens` has, which has the most
 abbrev pub blockCount : ℕ
 blockCount = 4
 
 -- a member is read that takes so many words and bytes, and it is stored where its group goes on
 pub record Settles (b : Block) (free : Bool) (s : List ℕ) (t : Current) (ps qs ps₁ qs₁ ws ts vs us : List ℕ) (u : Current) (words bytes count kind : ℕ) : Type 0 where
-  pub joins : Joins b 0 free s t (lent 0 [] 0 []) u (lent words [] bytes []) count kind
+  pub joins : Joins b free s t (lent 0 [] 0 []) u (lent words [] bytes []) count kind
   pub words-on : ps₁ ≡ set ps (placeOf b (joins .value)) (getD ps (placeOf b (joins .value)) 0 + words)
   pub bytes-on : qs₁ ≡ set qs (placeOf b (joins .value)) (getD qs (placeOf b (joins .value)) 0 + bytes)
   pub stores : Stores (flat nodes (branchesOf b (joins .value))) (lent (getD ps (placeOf b (joins .value)) 0) ws (getD qs (placeOf b (joins .value)) 0) ts)
       (lent (getD ps (placeOf b (joins .value)) 0 + words) vs (getD qs (placeOf b (joins .value)) 0 + bytes) us)
 
+-- what an answer says of a member, whatever stands before it: it is read, and stored where its group goes on, or it is this refusal
 abbrev pub SettlesTo : (b : Block) → (free : Bool) → List ℕ → Current → (ps qs ps₁ qs₁ ws ts vs us : List ℕ) → Joined → Type 0
 SettlesTo b f s t ps qs ps₁ qs₁ ws ts vs us (Done u n x count kind) = Settles b f s t ps qs ps₁ qs₁ ws ts vs us u n x count kind
 SettlesTo b f s t ps qs ps₁ qs₁ ws ts vs us (Refused c p) = (before : List (MemberOf b)) → Free b before f → memberOf b before (stream s t) ≡ refused (causeNumber c) p
@@ -174,6 +178,7 @@ pub record Spreads (b : Block) (s : List ℕ) (t : Current) (ps qs ps₁ qs₁ w
   pub gathers : Gathers (membersOf b (stream s t)) (allOf (kindOf b) (branchesOf b) 0) s t 1 (lent 0 [] 0 []) u (lent words [] bytes []) count
   pub fills : Fills (placeOf b) (branchesOf b) blockCount (gathers .members) ps qs ps₁ qs₁ ws ts vs us
 
+-- what an answer says of the members of a block: they are read and their groups filled in, or refused with this cause and place
 abbrev pub SpreadsTo : (b : Block) → List ℕ → Current → (ps qs ps₁ qs₁ ws ts vs us : List ℕ) → Listed → Type 0
 SpreadsTo b s t ps qs ps₁ qs₁ ws ts vs us (L.Done u n x count) = Spreads b s t ps qs ps₁ qs₁ ws ts vs us u n x count
 SpreadsTo b s t ps qs ps₁ qs₁ ws ts vs us (L.Refused c p) = membersOf b (stream s t) ≡ refused (causeNumber c) p
@@ -182,6 +187,7 @@ SpreadsTo b s t ps qs ps₁ qs₁ ws ts vs us (L.Refused c p) = membersOf b (str
 abbrev pub FirstIs : (b : Block) → List ℕ → Current → (size : ℕ) → Type 0
 FirstIs b s t n = (ms : List (MemberOf b)) (us : T.Tokens ℕ) → membersOf b (stream s t) ≡ read ms us → n ≡ width * length (flat nodes (groupAt (placeOf b) (branchesOf b) 0 ms))
 
+-- of members that are read the first size is that of the first group, in words; of a refusal nothing is said
 abbrev pub FirstTo : (b : Block) → List ℕ → Current → (sizes : List ℕ) → Listed → Type 0
 FirstTo b s t sizes (L.Done u n x count) = FirstIs b s t (getD sizes 0 0)
 FirstTo b s t sizes (L.Refused c p) = Unit {0}

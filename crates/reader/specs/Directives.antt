@@ -13,7 +13,7 @@ use Rattle.characters.specs.Utf8.{encodeAll}
 use Rattle.lexer.specs.Tokens.{Tokens}
 use Rattle.tree.specs.Records.{Branch, Node, nodes}
 use Rattle.tree.specs.Stored.{declarationBranch, externalPropBranch, sourceBranch}
-use Rattle.tree.specs.Syntax.{Identifier, TokenDeclaration, LocalTokenDeclaration, SpecializeKind, extend, specialize, Declaration, declarationKind}
+use Rattle.tree.specs.Syntax.{Identifier, TokenDeclaration, LocalTokenDeclaration, Declaration, declarationKind}
 use Rattle.notation.specs.Parser.{Answer, read, refused, Parser, _>>=_, _>>_, pure, kind, nameIn, next, nothing, expectName, parseIdentifier}
 use Rattle.notation.specs.Members.{SkipMember, skipTopRule, Member, declaration, dialects, externalProp, detectDelim}
 use Rattle.notation.specs.Declarations.{names, isTop, seen, block, topBy, parseLocalTokens, parseExternalProp, parseSource, parseSkipMember}
@@ -35,23 +35,27 @@ use Rattle.reader.specs.declared.directives.Declared.the-variants.{Done,
 abbrev pub past : {A : Type 0} → Parser ℕ A → Parser ℕ A
 past p = next >> p
 
--- after `@top`, after `@local`, after `@external prop`, after `@dialects`
+-- a top rule, after `@top`
 abbrev pub topAt : Parser ℕ (Declaration ℕ)
 topAt = kind >>= λ k. topBy (nameIn k)
 
+-- `tokens` and its block, after `@local`; the declaration starts at p
 abbrev pub localAt : (start : ℕ) → Parser ℕ (LocalTokenDeclaration ℕ)
 localAt p = expectName "tokens" >> parseLocalTokens p
 
+-- an external prop, after `@external prop`; the declaration starts at p
 abbrev pub propAt : (start : ℕ) → Parser ℕ (Member ℕ)
 propAt p = parseExternalProp p >>= λ x. pure (externalProp x)
 
+-- a list of dialects, after `@dialects`
 abbrev pub dialectsAt : Parser ℕ (Member ℕ)
 dialectsAt = names >>= λ ns. pure (dialects ns)
 
--- the records of a declaration that has a type of its own
+-- the branch of `@tokens`
 abbrev pub tokensBranch : TokenDeclaration ℕ → Branch
 tokensBranch x = declarationBranch (Declaration.tokens x)
 
+-- the branch of `@local tokens`
 abbrev pub localBranch : LocalTokenDeclaration ℕ → Branch
 localBranch x = declarationBranch (Declaration.localTokens x)
 
@@ -61,6 +65,7 @@ pub record SetOf (b : Block) : Type 0 where
   pub source : List ℕ
   pub members : List (MemberOf b)
 
+-- how these are read: the name, `from` and a string, and the members in braces
 unfoldable pub externalSet : (b : Block) → Parser ℕ (SetOf b)
 externalSet b = do
   n ← parseIdentifier
@@ -73,11 +78,6 @@ abbrev pub setNodes : (b : Block) → (kind start value before : ℕ) → SetOf 
 setNodes b k p v before x =
     let bs = groupsOf (kindOf b) (branchesOf b) (kindsOf b) (x .members) in
     nodes (sourceBranch (x .source)) ++ flat nodes bs ++ node k p (encodeAll (x .id)) v 0 (before + 1 + length bs) ∷ []
-
--- the kind of a specializer, and its value
-abbrev pub specializeBy : Bool → SpecializeKind
-specializeBy true = extend
-specializeBy false = specialize
 
 -- the kind of what stands at top level; `@detectDelim` is a value of the grammar's record, 1
 abbrev pub memberKind : Member ℕ → ℕ
@@ -93,6 +93,7 @@ memberBranches (dialects ns) = []
 memberBranches (externalProp x) = externalPropBranch x ∷ []
 memberBranches detectDelim = []
 
+-- whether a member is a top rule, or a scoped skip with one
 abbrev pub memberTop : Member ℕ → Bool
 memberTop (declaration d) = isTop d
 memberTop (dialects ns) = false
@@ -131,6 +132,7 @@ abbrev pub declaredPlace : Declared → ℕ
 declaredPlace (Refused c p) = p
 declaredPlace (Done u n x kind top) = 0
 
+-- what an answer says of D, with these kinds before: it is a member whose branches are stored, or it is this refusal
 abbrev pub DeclaresTo : (List (Member ℕ) → Answer ℕ (Member ℕ)) → Seen → List ℕ → Current → Lent → (words texts : List ℕ) → Declared → Type 0
 DeclaresTo D k s t a ws ts (Done u n x kind top) = Declares D k s t a u (lent n ws x ts) kind top
 DeclaresTo D k s t a ws ts (Refused c p) = (before : List (Member ℕ)) → SeenIs k before → D before ≡ refused (causeNumber c) p
@@ -141,12 +143,9 @@ DeclaresAlone D k s t n x r = (ws ts : List ℕ) → DeclaresTo D k s t (lent n 
 
 -- ------------------------------------------------------------------ scoped skips
 
+-- the members of a scoped skip, in braces
 abbrev pub skips : Parser ℕ (List (SkipMember ℕ))
 skips = block nothing parseSkipMember
-
--- whether a block of a scoped skip that is read has a top rule
-abbrev pub HoldsTop : List ℕ → Current → Bool → Type 0
-HoldsTop s t r = (ms : List (SkipMember ℕ)) (us : Tokens ℕ) → skips (stream s t) ≡ read ms us → not (isEmpty (picked skipTopRule ms)) ≡ r
 
 -- the block is read; its nodes, and one over them and the expression before, are stored. The last may take the room of a token before
 pub record Scoping (start : ℕ) (s : List ℕ) (t : Current) (a : Lent) (u : Current) (b : Lent) (kind : ℕ) (top : Bool) : Type 0 where
@@ -158,6 +157,7 @@ pub record Scoping (start : ℕ) (s : List ℕ) (t : Current) (a : Lent) (u : Cu
   pub lays : Lays s t u 1 (flat nodes (groupsOf (kindOf Skip) (branchesOf Skip) (kindsOf Skip) members)
       ++ node 23 start [] 0 0 (1 + length (groupsOf (kindOf Skip) (branchesOf Skip) (kindsOf Skip) members)) ∷ []) a b
 
+-- what an answer says of the block of a scoped skip that starts at p: it is read and stored, or refused with this cause and place
 abbrev pub Scopes : (start : ℕ) → List ℕ → Current → Lent → (words texts : List ℕ) → Declared → Type 0
 Scopes p s t a ws ts (Done u n x kind top) = Scoping p s t a u (lent n ws x ts) kind top
 Scopes p s t a ws ts (Refused c q) = skips (stream s t) ≡ refused (causeNumber c) q

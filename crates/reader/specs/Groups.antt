@@ -45,6 +45,7 @@ pub record Gathers {M : Type 0} (D : Answer ℕ (List M)) (branches : List M →
   pub onward : Onward s t u step
   pub lays : Lays s t u 0 (flat nodes (branches members)) a b
 
+-- what an answer says of D: it is members whose branches are stored, so many, or it is this refusal
 abbrev pub GathersTo : {M : Type 0} → Answer ℕ (List M) → (List M → List Branch) → List ℕ → Current → (step : ℕ) → Lent → (words texts : List ℕ) → Listed → Type 0
 GathersTo D f s t step a ws ts (Done u n x count) = Gathers D f s t step a u (lent n ws x ts) count
 GathersTo D f s t step a ws ts (Refused c p) = D ≡ refused (causeNumber c) p

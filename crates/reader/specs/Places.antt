@@ -50,6 +50,7 @@ module _ {M : Type 0} (place : M → ℕ) (branches : M → List Branch) where
 
 -- ------------------------------------------------------------------ sizes and places
 
+-- how much parts of these sizes take together
 unfoldable pub sum : List ℕ → ℕ
 sum [] = 0
 sum (x ∷ xs) = x + sum xs

@@ -5,10 +5,10 @@ use mathlib.Core.Path.{_≡_}
 use mathlib.Core.Bool.{Bool, true, false, not, _||_}
 use mathlib.Core.List.{List, [], _∷_, _++_}
 use lib.Dec.{eqb}
-use lib.ListN.{length, drop, getD, set}
+use lib.ListN.{length, getD, set}
 use Rattle.error.specs.declared.Cause.{Cause}
 use Rattle.error.specs.declared.Cause.the-variants.{UnexpectedToken}
-use Rattle.basics.specs.Basics.{if_then_else_, isEmpty, picked, concat, lastOf}
+use Rattle.basics.specs.Basics.{if_then_else_, isEmpty, over, picked, concat, lastOf}
 use Rattle.error.specs.Causes.{recordsFull, textsFull}
 use Rattle.error.specs.Promise.{causeNumber}
 use Rattle.lexer.specs.Tokens.{Tokens}
@@ -76,6 +76,7 @@ pub record NamedAt (s : List ℕ) (last : Current) (ns : List (Identifier ℕ)) 
   pub lies : LiesIn s 0 last
   pub token : IsToken last
 
+-- the names are those that are read at the token last, if a list of dialects was noted; else there are none
 abbrev pub NamedIs : List ℕ → (listed : Bool) → (last : Current) → List (Identifier ℕ) → Type 0
 NamedIs s false last ns = ns ≡ []
 NamedIs s true last ns = NamedAt s last ns
@@ -89,17 +90,15 @@ pub record NotedIs (s : List ℕ) (n : Noted) (ms : List (Member ℕ)) : Type 0 
 
 -- ------------------------------------------------------------------ groups
 
--- the kinds of declarations in the order of their groups, and those of all that is stored but dialects
-abbrev pub declaredKinds : List ℕ
-declaredKinds = 2 ∷ 3 ∷ 8 ∷ 12 ∷ 14 ∷ 16 ∷ 18 ∷ 19 ∷ 20 ∷ 22 ∷ 23 ∷ []
-
+-- the kinds of all that is stored but dialects, in the order of their groups: declarations and external props
 abbrev pub storedKinds : List ℕ
 storedKinds = 2 ∷ 3 ∷ 8 ∷ 12 ∷ 14 ∷ 16 ∷ 18 ∷ 19 ∷ 20 ∷ 22 ∷ 23 ∷ 25 ∷ []
 
--- the group of a member; what has no records in one stands behind them all, so there are so many
+-- the group of a member; what has no records in one stands behind them all
 abbrev pub memberPlace : Member ℕ → ℕ
 memberPlace m = placeIn storedKinds (memberKind m)
 
+-- how many groups there are: one for each stored kind, and the one behind them all
 abbrev pub groupCount : ℕ
 groupCount = 13
 
@@ -111,6 +110,7 @@ pub record Places (k : Seen) (s : List ℕ) (t : Current) (ps qs ps₁ qs₁ ws 
   pub stores : Stores (flat nodes (memberBranches (declares .value))) (lent (getD ps (memberPlace (declares .value)) 0) ws (getD qs (memberPlace (declares .value)) 0) ts)
       (lent (getD ps (memberPlace (declares .value)) 0 + words) vs (getD qs (memberPlace (declares .value)) 0 + bytes) us)
 
+-- what an answer says of a declaration, with these kinds before: it is stored where its group goes on, or it is this refusal
 abbrev pub PlacesTo : Seen → List ℕ → Current → (ps qs ps₁ qs₁ ws ts vs us : List ℕ) → Declared → Type 0
 PlacesTo k s t ps qs ps₁ qs₁ ws ts vs us (D.Done u n x kind top) = Places k s t ps qs ps₁ qs₁ ws ts vs us u n x kind top
 PlacesTo k s t ps qs ps₁ qs₁ ws ts vs us (D.Refused c p) = (before : List (Member ℕ)) → SeenIs k before → parseDeclaration before (stream s t) ≡ refused (causeNumber c) p
@@ -137,6 +137,7 @@ abbrev pub passedPlace : Passed → ℕ
 passedPlace (P.Refused c p) = p
 passedPlace (P.Done u n x count noted) = 0
 
+-- what an answer says of all declarations: they are noted and their groups filled in, or they are refused with this cause and place
 abbrev pub PassesTo : List ℕ → Current → (ps qs ps₁ qs₁ ws ts vs us : List ℕ) → Passed → Type 0
 PassesTo s t ps qs ps₁ qs₁ ws ts vs us (P.Done u n x count noted) = Passes s t ps qs ps₁ qs₁ ws ts vs us u n x count noted
 PassesTo s t ps qs ps₁ qs₁ ws ts vs us (P.Refused c p) = members (stream s t) ≡ refused (causeNumber c) p
@@ -155,6 +156,7 @@ pub record Names (ns : List (Identifier ℕ)) (s : List ℕ) (a b : Lent) (count
   pub few : length (flat (nodesOf (nameBranch 24)) ns) ≤ 2 * length s
   pub short : length (textsOf (flat (nodesOf (nameBranch 24)) ns)) ≤ 3 * length s
 
+-- what an answer says of the names that are noted: they are stored; they are never refused
 abbrev pub NamesTo : List ℕ → Noted → Lent → (words texts : List ℕ) → Listed → Type 0
 NamesTo s n a ws ts (L.Done u m x count) = (ns : List (Identifier ℕ)) → NamedIs s (n .listed) (n .last) ns → Names ns s a (lent m ws x ts) count
 NamesTo s n a ws ts (L.Refused c p) = ⊥
@@ -191,10 +193,6 @@ pub record First (s : List ℕ) (t : Current) : Type 0 where
   pub arrives : arrive (tokensAt s 0) ≡ read tt (stream s t)
   pub lies : LiesIn s 0 t
 
--- over the front of what was lent; the rest of it is unchanged
-abbrev pub onto : List ℕ → List ℕ → List ℕ
-onto xs lent = xs ++ drop (length xs) lent
-
 -- the tree is stored, and there was room for it: at most four records for each byte of the text, and the grammar's
 pub record Read (s ws ts vs us : List ℕ) (words bytes : ℕ) : Type 0 where
   pub tree : GrammarDeclaration ℕ
@@ -205,24 +203,25 @@ pub record Read (s ws ts vs us : List ℕ) (words bytes : ℕ) : Type 0 where
   pub few : words ≤ 28 * length s + 7
   pub words-fit : words ≤ length ws
   pub bytes-fit : bytes ≤ length ts
-  pub records : vs ≡ onto (grammarWords tree) ws
-  pub texts : us ≡ onto (grammarTexts tree) ts
+  pub records : vs ≡ over (grammarWords tree) ws
+  pub texts : us ≡ over (grammarTexts tree) ts
 
--- the tree needs more words than are lent; it needs no more words, but more bytes
+-- the tree needs more words than are lent: `recordsFull` at place 0
 pub record NoWords (s ws : List ℕ) (cause place : ℕ) : Type 0 where
   pub tree : GrammarDeclaration ℕ
   pub rest : Tokens ℕ
   pub gives : parseGrammar (tokensAt s 0) ≡ read tree rest
-  pub over : length ws < length (grammarWords tree)
+  pub short : length ws < length (grammarWords tree)
   pub cause-is : cause ≡ recordsFull
   pub place-is : place ≡ 0
 
+-- the tree needs no more words than are lent, but more bytes: `textsFull` at place 0
 pub record NoBytes (s ws ts : List ℕ) (cause place : ℕ) : Type 0 where
   pub tree : GrammarDeclaration ℕ
   pub rest : Tokens ℕ
   pub gives : parseGrammar (tokensAt s 0) ≡ read tree rest
   pub fits : length (grammarWords tree) ≤ length ws
-  pub over : length ts < length (grammarTexts tree)
+  pub short : length ts < length (grammarTexts tree)
   pub cause-is : cause ≡ textsFull
   pub place-is : place ≡ 0
 

@@ -63,10 +63,10 @@ impl Joined {
 fn one(parsed: Parsed, kind: u32) -> Joined
     ensures { λ r. ⌜ r ≡ oneOf kind parsed ⌝ }
 {
-    match parsed {
-        Parsed::Done(u, n, x) => Joined::Done(u, n, x, 1, kind),
-        Parsed::Refused(cause, at) => Joined::Refused(cause, at),
-    }
+    let Parsed::Done(u, n, x) = parsed else {
+        return Joined::Refused(parsed.cause(), parsed.place());
+    };
+    Joined::Done(u, n, x, 1, kind)
 }
 
 fn token_member(
@@ -79,7 +79,7 @@ fn token_member(
     x: usize,
 ) -> Joined
     requires { ⌜ Ready (now source) token n x ⌝ }
-    ensures { λ r. ⌜ JoinsTo Tokens 0 free (now (source .entry)) token
+    ensures { λ r. ⌜ JoinsTo Tokens free (now (source .entry)) token
         (lent n (now (records .entry)) x (now (texts .entry))) (now (records .exit)) (now (texts .exit)) r ⌝ }
 {
     match tokens::string(token) {
@@ -116,7 +116,7 @@ fn local_member(
     x: usize,
 ) -> Joined
     requires { ⌜ Ready (now source) token n x ⌝ }
-    ensures { λ r. ⌜ JoinsTo LocalTokens 0 free (now (source .entry)) token
+    ensures { λ r. ⌜ JoinsTo LocalTokens free (now (source .entry)) token
         (lent n (now (records .entry)) x (now (texts .entry))) (now (records .exit)) (now (texts .exit)) r ⌝ }
 {
     if tokens::says(source, tokens::at(token), b"precedence") {
@@ -148,7 +148,7 @@ fn external_member(
     x: usize,
 ) -> Joined
     requires { ⌜ Ready (now source) token n x ⌝ }
-    ensures { λ r. ⌜ JoinsTo ExternalTokens 0 free (now (source .entry)) token
+    ensures { λ r. ⌜ JoinsTo ExternalTokens free (now (source .entry)) token
         (lent n (now (records .entry)) x (now (texts .entry))) (now (records .exit)) (now (texts .exit)) r ⌝ }
 {
     match tokens::eat_at(source, token, b"conflict") {
@@ -177,7 +177,7 @@ fn skip_member(
     x: usize,
 ) -> Joined
     requires { ⌜ Ready (now source) token n x ⌝ }
-    ensures { λ r. ⌜ JoinsTo Skip 0 free (now (source .entry)) token
+    ensures { λ r. ⌜ JoinsTo Skip free (now (source .entry)) token
         (lent n (now (records .entry)) x (now (texts .entry))) (now (records .exit)) (now (texts .exit)) r ⌝ }
 {
     match tokens::eat_at(source, token, b"top") {
@@ -199,7 +199,7 @@ fn member(
     x: usize,
 ) -> Joined
     requires { ⌜ Ready (now source) token n x ⌝ }
-    ensures { λ r. ⌜ JoinsTo block 0 free (now (source .entry)) token
+    ensures { λ r. ⌜ JoinsTo block free (now (source .entry)) token
         (lent n (now (records .entry)) x (now (texts .entry))) (now (records .exit)) (now (texts .exit)) r ⌝ }
 {
     match block {

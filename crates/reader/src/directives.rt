@@ -3,6 +3,7 @@ use crate::blocks;
 use crate::blocks::Block;
 use declarations::externals;
 use error::Cause;
+use parser::LEVELS;
 use parser::parts::Expressed;
 use parser::props::Listed;
 use parser::props::Parsed;
@@ -11,20 +12,19 @@ use tokens::Arrived;
 use tokens::Current;
 use tokens::Eaten;
 use tokens::Taken;
+use tree::SpecializeKind;
 ghost use mathlib.Core.Path.{_≡_};
 ghost use Prim.Native.Nat.{_≤_};
 ghost use lib.ListN.{length};
-ghost use Rattle.tree.specs.Stored.{declarationBranch, specializeValue};
+ghost use Rattle.tree.specs.Stored.{declarationBranch};
+ghost use Rattle.tree.specs.Promise.{specializeOf};
 ghost use Rattle.notation.specs.Declarations.{parseTokens, parseExternalTokens, parseExternalSpecializer, parseSkipDeclaration, declares};
 ghost use Rattle.tokens.specs.Promise.{stream, startIn};
 ghost use Rattle.parser.specs.Storing.{lent, nodesOf};
 ghost use Rattle.parser.specs.Steps.{Parses};
 ghost use Rattle.parser.specs.Shapes.{IsToken};
 ghost use Rattle.reader.specs.Blocks.{Roomy};
-ghost use Rattle.reader.specs.Directives.{declaredCause, declaredPlace, past, localAt, tokensBranch, localBranch, specializeBy, externalSet, setNodes, Scopes, declaredOf, DeclaresTo};
-
-// How many levels an expression in braces may have.
-const LEVELS: usize = 64;
+ghost use Rattle.reader.specs.Directives.{declaredCause, declaredPlace, past, localAt, tokensBranch, localBranch, externalSet, setNodes, Scopes, declaredOf, DeclaresTo};
 
 // Which kinds were seen, of those of which there is at most one.
 pub struct Seen {
@@ -223,29 +223,19 @@ pub fn parse_external_tokens(
     )
 }
 
-// The value of a specializer's record.
-fn specialize_value(extend: bool) -> u32
-    ensures { λ r. ⌜ r ≡ specializeValue (specializeBy extend) ⌝ }
-{
-    if extend {
-        return 1;
-    }
-    2
-}
-
 // `@external extend` or `@external specialize`, at its second word; it starts at `start`.
 pub fn parse_external_specializer(
     source: &[u8],
     token: Current,
     start: usize,
-    extend: bool,
+    kind: SpecializeKind,
     records: &mut [u32],
     n: usize,
     texts: &mut [u8],
     x: usize,
 ) -> Parsed
     requires { ⌜ Roomy (now source) token n x × IsToken token × (start ≤ length (now source)) ⌝ }
-    ensures { λ r. ⌜ Parses (past (parseExternalSpecializer start (specializeBy extend)) (stream (now (source .entry)) token)) (nodesOf declarationBranch) (now (source .entry)) token
+    ensures { λ r. ⌜ Parses (past (parseExternalSpecializer start (specializeOf kind)) (stream (now (source .entry)) token)) (nodesOf declarationBranch) (now (source .entry)) token
         (lent n (now (records .entry)) x (now (texts .entry))) (now (records .exit)) (now (texts .exit)) r ⌝ }
 {
     let arrived = tokens::next(source, token);
@@ -262,7 +252,7 @@ pub fn parse_external_specializer(
         Block::Specializer,
         18,
         start,
-        specialize_value(extend),
+        tree::specialize_value(kind),
         1,
         records,
         m,

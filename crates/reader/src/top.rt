@@ -11,6 +11,7 @@ use parser::props::Parsed;
 use tokens::Arrived;
 use tokens::Current;
 use tokens::Part;
+use tree::SpecializeKind;
 ghost use mathlib.Core.Path.{_≡_};
 ghost use Prim.Native.Nat.{_≤_};
 ghost use lib.ListN.{length};
@@ -157,7 +158,7 @@ fn parse_external_declaration(
                 source,
                 token,
                 start,
-                true,
+                SpecializeKind::Extend,
                 records,
                 n,
                 texts,
@@ -173,7 +174,7 @@ fn parse_external_declaration(
                 source,
                 token,
                 start,
-                false,
+                SpecializeKind::Specialize,
                 records,
                 n,
                 texts,

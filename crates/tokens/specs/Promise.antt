@@ -65,19 +65,22 @@ abbrev pub arrival : List ℕ → Arrived → Answer ℕ (Unit {0})
 arrival s (At t) = read tt (stream s t)
 arrival s (Refused c p) = refused (causeNumber c) p
 
--- what a refusal says
+-- the cause, where a token is refused; `UnexpectedToken` where one is arrived at
 abbrev pub arrivedCause : Arrived → Cause
 arrivedCause (Refused c p) = c
 arrivedCause (At t) = UnexpectedToken
 
+-- the place, where a token is refused; 0 where one is arrived at
 abbrev pub arrivedPlace : Arrived → ℕ
 arrivedPlace (Refused c p) = p
 arrivedPlace (At t) = 0
 
+-- the cause, where a part of the source is refused; `UnexpectedToken` where it is taken
 abbrev pub takenCause : Taken → Cause
 takenCause (G.Refused c p) = c
 takenCause (G.Got a e t) = UnexpectedToken
 
+-- the place, where a part of the source is refused; 0 where it is taken
 abbrev pub takenPlace : Taken → ℕ
 takenPlace (G.Refused c p) = p
 takenPlace (G.Got a e t) = 0

@@ -16,6 +16,7 @@ abbrev pub sameRow : Row → Row → Bool
 sameRow r q =
     eqb (r .kind) (q .kind) && same (r .text) (q .text) && (eqb (r .kind) 5 || eqb (r .value) (q .value)) && eqb (r .second) (q .second)
 
+-- trees that are equal in all but the starts and the `@` of props
 unfoldable mutual
   -- the rows are equal so, and all below them
   pub sameBranch : Branch → Branch → Bool

@@ -13,6 +13,7 @@ pub record Row : Type 0 where
   pub value : ℕ
   pub second : ℕ
 
+-- trees of records
 mutual
   -- a record with those below it
   pub data Branch : Type 0 where

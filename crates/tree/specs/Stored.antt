@@ -75,6 +75,7 @@ repeatValue optional = 0
 repeatValue zeroOrMore = 1
 repeatValue oneOrMore = 2
 
+-- the branches of expressions, with all that stands below them
 unfoldable mutual
   -- 30 name (text): arguments. 31 specialize (value as 18): props, token, content. 32 inline rule (text): props, expression.
   -- 33 choice. 34 sequence (value 1: explicitly empty, no children): each slot's markers, then the next expression.

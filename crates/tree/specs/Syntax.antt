@@ -50,6 +50,7 @@ pub data RepeatKind : Type 0 where
 pub data CharClass : Type 0 where
   asciiLetter asciiLowercase asciiUppercase digit whitespace eof : CharClass
 
+-- expressions, their lists and the slots of sequences
 mutual
   -- an expression. An S that stands first in a constructor is the start
   pub data Expression (S : Type 0) : Type 0 where

@@ -164,7 +164,7 @@ fn two_ranges(first: u32, past: u32, second: u32, end: u32) -> Ranges
 
 // `CharClass::ranges`.
 pub fn char_class_ranges(class: CharClass) -> Ranges
-    ensures { λ r. ⌜ take (r .count * 2) (r .ends) ≡ flat (ranges (classOf class)) ⌝ }
+    ensures { λ r. ⌜ (r .count ≡ length (ranges (classOf class))) × (take (r .count * 2) (r .ends) ≡ flat (ranges (classOf class))) ⌝ }
 {
     match class {
         CharClass::AsciiLetter => two_ranges(65, 91, 97, 123),

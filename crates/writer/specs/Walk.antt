@@ -254,6 +254,7 @@ unfoldable pub lastClass : ℕ → Branches → ℕ
 lastClass l []ᴮ = l
 lastClass l (b ∷ᴮ bs) = lastClass (class (kindOf b)) bs
 
+-- the text of a tree: what stands before the children of a record, the children, what stands after them
 unfoldable mutual
   -- a branch, as a child of a record, after a child of a class
   pub branchText : (parent : Row) → (left : ℕ) → Branch → List ℕ

@@ -1,4 +1,4 @@
--- `grammar::read` meets its contract: on each way the outcome is that of the definition.
+-- `calls::read` meets its contract: on each way the outcome is that of the definition.
 -- Assumes nothing.
 use mathlib.Core.Path.{sym, _∙_}
 use native.Mathlib.Omega.{arith}

@@ -1,6 +1,7 @@
 -- `parts::parse_specialize_content` meets its contract.
 -- Assumes nothing.
 use native.Mathlib.Omega.{arith}
+use mathlib.Core.Path.{refl}
 use Rattle.parser.proofs.Ready.{part-short}
 use Rattle.parser.proofs.HeadRules.{content-part, content-stored, short-asks}
 use Rattle.notation.specs.Parser.{refuse}
@@ -49,7 +50,7 @@ returns c =
     let c4 = c .before .before .before .before in
     let c9 = c4 .before .before .before .before .before in
     let c14 = c9 .before .before .before .before .before in
-    content-stored (c14 .pre) (c9 .shape .given .1) (c4 .put-string .ensures)
+    (refl, content-stored (c14 .pre) (c9 .shape .given .1) (c4 .put-string .ensures))
 
 returns-2 : tie.Need-returns-2
 unfolding refuse

@@ -50,7 +50,7 @@ same-length-2 c = search needs
 returns : tie.Need-returns
 returns c =
     let c6 = c .before .before .before .before .before .before in
-    rw (c .enum-told .given .1) (joined-not _ _ _ _ _ _ _ _ (c6 .member .result) (c6 .member .ensures) (c .enum-told .given .1))
+    rw (c .enum-told .given .1) (joined-not _ _ _ _ _ _ _ (c6 .member .result) (c6 .member .ensures) (c .enum-told .given .1))
 
 mul-words : tie.Need-mul-words
 mul-words c =
@@ -79,12 +79,12 @@ slice-write-bytes c =
 sub-t18 : tie.Need-sub-t18
 sub-t18 c =
     let c7 = c .before .before .before .before .before .before .before in
-    let j = joined-at _ _ _ _ _ _ _ _ (c7 .member .result) (c7 .member .ensures) (c .before .joined .given .1) in let o = settled-on j in omega arith
+    let j = joined-at _ _ _ _ _ _ _ (c7 .member .result) (c7 .member .ensures) (c .before .joined .given .1) in let o = settled-on j in omega arith
 
 sub-t20 : tie.Need-sub-t20
 sub-t20 c =
     let c7 = c .before .before .before .before .before .before .before in
-    let j = joined-at _ _ _ _ _ _ _ _ (c7 .member .result) (c7 .member .ensures) (c .before .joined .given .1) in let o = settled-on j in omega arith
+    let j = joined-at _ _ _ _ _ _ _ (c7 .member .result) (c7 .member .ensures) (c .before .joined .given .1) in let o = settled-on j in omega arith
 
 same-length-3 : tie.Need-same-length-3
 same-length-3 c = search needs
@@ -102,7 +102,7 @@ returns-2 : tie.Need-returns-2
 returns-2 c =
     let c7 = c .before .before .before .before .before .before .before in
     let c12 = c7 .before .before .before .before .before in
-    let j = joined-at _ _ _ _ _ _ _ _ (c7 .member .result) (c7 .member .ensures) (c .before .joined .given .1) in settled j (c12 .group-ahead .ensures) refl refl refl refl
+    let j = joined-at _ _ _ _ _ _ _ (c7 .member .result) (c7 .member .ensures) (c .before .joined .given .1) in settled j (c12 .group-ahead .ensures) refl refl refl refl
 
 pub member-placed-spec : {M : Type 1} → statement M
 member-placed-spec =

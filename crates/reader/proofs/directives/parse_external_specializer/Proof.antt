@@ -6,7 +6,7 @@ use Rattle.tree.specs.Stored.{declarationBranch}
 use Rattle.notation.specs.Declarations.{parseExternalSpecializer}
 use Rattle.parser.specs.Storing.{nodesOf}
 use Rattle.parser.proofs.InnerLaws.{braced-read, braced-not}
-use Rattle.reader.specs.Directives.{specializeBy}
+use Rattle.tree.specs.Promise.{specializeOf}
 use Rattle.reader.proofs.RoomyLaws.{roomy-ready, roomy-step, roomy-on}
 use Rattle.reader.proofs.TopLaws.{past-not, past-at, past-onward, parses-past}
 use Rattle.reader.proofs.DirectiveLaws.{specializer-halt, specializer-parsed}
@@ -93,7 +93,7 @@ returns-3 c =
     let c19 = c15 .before .before .before .before in
     let c21 = c19 .before .before in
     let c25 = c21 .before .before .before .before in
-    parses-past _ _ _ (c21 .next .ensures) (c19 .arrived .given .1) (c25 .pre .1) (c25 .pre .0 .lies) (parseExternalSpecializer (c25 .args .start) (specializeBy (c25 .args .extend))) (nodesOf declarationBranch) _ _ _ (c4 .parse-external-set .result) (specializer-parsed (c25 .args .start) (specializeBy (c25 .args .extend)) _ _ (c7 .specialize-value .ensures) (braced-read _ _ _ _ _ _ _ (c15 .braced .ensures) (c9 .inside .given .1)) _ _ (c4 .parse-external-set .result) (c4 .parse-external-set .ensures))
+    parses-past _ _ _ (c21 .next .ensures) (c19 .arrived .given .1) (c25 .pre .1) (c25 .pre .0 .lies) (parseExternalSpecializer (c25 .args .start) (specializeOf (c25 .args .kind))) (nodesOf declarationBranch) _ _ _ (c4 .parse-external-set .result) (specializer-parsed (c25 .args .start) (specializeOf (c25 .args .kind)) _ _ (c7 .specialize-value .ensures) (braced-read _ _ _ _ _ _ _ (c15 .braced .ensures) (c9 .inside .given .1)) _ _ (c4 .parse-external-set .result) (c4 .parse-external-set .ensures))
 
 pub parse-external-specializer-spec : {M : Type 1} → statement M
 parse-external-specializer-spec =
