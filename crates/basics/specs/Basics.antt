@@ -1,9 +1,8 @@
 -- Small tests, quoted texts and lists. A text is a list of codes (Unicode code points); bytes are a list of numbers below 256.
 -- Assumes nothing.
-use Rattle.std.specs.Prelude.{ℕ, ◌+◌, Bool, true, false, ◌&&◌, ◌||◌, List, [], ◌∷◌, ◌++◌, eqb, leb, length, drop}
+use Rattle.std.specs.Prelude.{ℕ, Bool, true, false, ◌&&◌, ◌||◌, List, [], ◌∷◌, ◌++◌, eqb, leb, length, drop}
 use Prim.Native.Char.{Char, code}
 use Prim.Native.String.{String}
-use Prim.Native.String
 use Rattle.std.proofs.Math.Option.{Option, none, some}
 
 infixr 10 if◌then◌else◌

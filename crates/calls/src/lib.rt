@@ -1,4 +1,5 @@
 // The library's calls.
+#![tactic(auto)]
 ghost use Rattle.writer.specs.Promise.{Stored};
 ghost use Rattle.calls.specs.Promise.{ReadTo, Few, WriteTo, NormalTo, CompareTo};
 
@@ -12,21 +13,21 @@ use writer::Written;
 const LONGEST: usize = 65535;
 
 // How many words and bytes the tree takes, or why there is none.
-#[derive(Drop)]
+#[derive(Clone, Copy)]
 pub enum ReadAnswer {
     Stored(usize, usize),
     Refused(Refusal),
 }
 
 // How many bytes the normal text has, or why there is none.
-#[derive(Drop)]
+#[derive(Clone, Copy)]
 pub enum NormalAnswer {
     Written(usize),
     Refused(Refusal),
 }
 
 // Whether two trees are equal, or that one of them is no tree.
-#[derive(Drop)]
+#[derive(Clone, Copy)]
 pub enum CompareAnswer {
     Compared(bool),
     Refused(Refusal),

@@ -1,4 +1,6 @@
 // Characters: UTF-8, by Unicode's table 3-7, and the classes that the lexer asks for.
+#![tactic(auto)]
+
 mod table;
 
 ghost use Rattle.std.specs.Prelude.{◌≡◌, List, ◌+◌, ◌≤◌, ◌<◌, T, length, get_or, take, drop};
@@ -13,14 +15,14 @@ ghost use Rattle.characters.specs.Promise.{is_second, run_end, written, scalar_b
 use table::{ALPHABETIC, WHITE_SPACE};
 
 // The character at a place: its code and how many bytes it takes.
-#[derive(Drop)]
+#[derive(Clone, Copy)]
 pub enum Char {
     Scalar(u32, usize),
     Ill,
 }
 
 // Whether a text is UTF-8, or where its first ill-formed sequence starts.
-#[derive(Drop)]
+#[derive(Clone, Copy)]
 pub enum Checked {
     Good,
     IllAt(usize),

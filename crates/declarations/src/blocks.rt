@@ -18,7 +18,7 @@ use tokens::{Arrived, Current, Eaten, Taken};
 use tree::PrecKind;
 
 // The kind of a precedence, and the token after it.
-#[derive(Drop)]
+#[derive(Clone, Copy)]
 pub enum PrecTaken {
     Got(PrecKind, Current),
     Refused(Cause, usize),

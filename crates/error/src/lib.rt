@@ -1,10 +1,12 @@
 // What stops a reading: the cause, its place, and the line and column of that place.
+#![tactic(auto)]
+
 ghost use Rattle.std.specs.Prelude.{◌≡◌};
 ghost use Rattle.error.specs.Lines.{line_at, column_at, refusal_at};
 ghost use Rattle.error.specs.Promise.{cause_number, refusal_of};
 
 // Why, in the order of the numbers.
-#[derive(Drop)]
+#[derive(Clone, Copy)]
 pub enum Cause {
     TooLong,
     NotUtf8,
@@ -33,7 +35,7 @@ pub enum Cause {
     NotATree,
 }
 
-#[derive(Drop)]
+#[derive(Clone, Copy)]
 pub struct Refusal {
     pub cause: Cause,
     pub place: usize,
@@ -41,7 +43,7 @@ pub struct Refusal {
     pub column: usize,
 }
 
-#[derive(Drop)]
+#[derive(Clone, Copy)]
 pub struct LineInfo {
     pub line: usize,
     pub column: usize,

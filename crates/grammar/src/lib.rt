@@ -1,1 +1,2 @@
 // The library's calls.
+#![tactic(auto)]

@@ -1,4 +1,5 @@
 // The reader that holds its text and its current token: thin, over the plain functions on the text and a token.
+#![tactic(auto)]
 ghost use Rattle.std.specs.Prelude.{◌≤◌, ◌≡◌, length};
 ghost use Rattle.notation.specs.Parser.{next as next_d};
 ghost use Rattle.tokens.specs.Promise.{stream, end_in, arrival, Lies};
@@ -9,7 +10,7 @@ use reader::whole::Whole;
 use tokens::{Arrived, Current};
 
 // The source text, and the current token by value.
-#[derive(Drop)]
+#[derive(Clone, Copy)]
 pub struct Reader<'a> {
     pub source: &'a [u8],
     pub token: Current,

@@ -1,1 +1,2 @@
 // Theorems about the definitions; there is no code here.
+#![tactic(auto)]

@@ -8,27 +8,27 @@ ghost use Rattle.lexer.specs.Promise.{digit_of, braced_at, until_at, fixed_at, T
 
 use characters::Char;
 
-#[derive(Drop)]
+#[derive(Clone, Copy)]
 pub enum Digit {
     Is(u32),
     No,
 }
 
 // A character by its number, and the place after it.
-#[derive(Drop)]
+#[derive(Clone, Copy)]
 pub enum Hex {
     Code(u32, usize),
     Not,
 }
 
-#[derive(Drop)]
+#[derive(Clone, Copy)]
 pub struct Taken {
     pub code: u32,
     pub end: usize,
 }
 
 // A character of a body: its code, whether it was escaped, and the place after it.
-#[derive(Drop)]
+#[derive(Clone, Copy)]
 pub enum Atom {
     One(u32, bool, usize),
     End,

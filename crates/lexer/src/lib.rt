@@ -1,4 +1,5 @@
 // The tokens of a grammar file. A token's text is a part of the source: strings and sets are decoded where they are stored.
+#![tactic(auto)]
 pub mod escapes; // what a backslash stands for, and the value of a string
 pub mod sets; // the spans of a set, and what stops it
 pub mod words; // keywords and the names of classes
@@ -14,7 +15,7 @@ use characters::Char;
 
 // The kind of a token, with the part of the text that is its name, or that stands between its quotes or brackets. A string says
 // which quote it has.
-#[derive(Drop)]
+#[derive(Clone, Copy)]
 pub enum Kind {
     String(u32, usize, usize),
     At(usize, usize),
@@ -23,7 +24,7 @@ pub enum Kind {
     Identifier(usize, usize),
 }
 
-#[derive(Drop)]
+#[derive(Clone, Copy)]
 pub enum Cause {
     UnexpectedCharacter,
     UnterminatedString,
@@ -32,7 +33,7 @@ pub enum Cause {
 }
 
 // A token with its start and end, the end of the text, or what stops the lexer and where.
-#[derive(Drop)]
+#[derive(Clone, Copy)]
 pub enum Lexed {
     Token(Kind, usize, usize),
     Eof(usize),
@@ -40,14 +41,14 @@ pub enum Lexed {
 }
 
 // What stands after white space and comments: the place of the next token, or of a comment that is not closed.
-#[derive(Drop)]
+#[derive(Clone, Copy)]
 enum Trivia {
     Clear(usize),
     Unclosed(usize),
 }
 
 // The places before and after the mark that ends a string or a set.
-#[derive(Drop)]
+#[derive(Clone, Copy)]
 enum Found {
     At(usize, usize),
     Missing,

@@ -4,7 +4,7 @@ ghost use Rattle.basics.specs.Basics.{same};
 ghost use Rattle.lexer.specs.Promise.{class_named};
 
 // The classes of characters, or none.
-#[derive(Drop)]
+#[derive(Clone, Copy)]
 pub enum Class {
     AsciiLetter,
     AsciiLowercase,

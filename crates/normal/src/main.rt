@@ -1,4 +1,5 @@
 // Standard input to standard output: the normal text of a grammar file, or the line of its refusal.
+#![tactic(auto)]
 ghost use Rattle.std.specs.Prelude.{◌≤◌, ◌≡◌, length, take, replicate};
 ghost use Rattle.grammar.specs.Program.{printed};
 

@@ -1,6 +1,7 @@
 // From the tokens of a text to the records of its tree: expressions, from `parse_braced_expression` to `parse_expression_choice`.
 // The functions call each other in a cycle: with each call the rest of the text is shorter, or it is the same and the function comes later in
 // the grammar. `left` is how many levels may still be entered.
+#![tactic(auto)]
 pub mod store; // records and texts in what is lent
 pub mod props; // lists and props
 pub mod parts; // parts of rules and expressions

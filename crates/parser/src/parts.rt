@@ -30,7 +30,7 @@ const REPEATS: usize = 64;
 
 // What an expression is, so far as those around it ask: a name; a literal, with the part of the source between its quotes; so many
 // stacked repeats; a sequence with no expression that is not explicitly empty; or any other.
-#[derive(Drop)]
+#[derive(Clone, Copy)]
 pub enum Shape {
     Name,
     Literal(usize, usize),
@@ -40,54 +40,54 @@ pub enum Shape {
 }
 
 // An expression is stored: the token after it, the words and bytes taken, its start and its shape.
-#[derive(Drop)]
+#[derive(Clone, Copy)]
 pub enum Expressed {
     Done(Current, usize, usize, usize, Shape),
     Refused(Cause, usize),
 }
 
 // The props and the params of a rule are stored, with how many there are of each.
-#[derive(Drop)]
+#[derive(Clone, Copy)]
 pub enum Headed {
     Done(Current, usize, usize, usize, usize),
     Refused(Cause, usize),
 }
 
 // What a name or a mark stands for, if it stands for anything.
-#[derive(Drop)]
+#[derive(Clone, Copy)]
 pub enum ClassNamed {
     Class(CharClass),
     Missing,
 }
 
-#[derive(Drop)]
+#[derive(Clone, Copy)]
 pub enum Repeated {
     Kind(RepeatKind),
     Missing,
 }
 
-#[derive(Drop)]
+#[derive(Clone, Copy)]
 pub enum Marked {
     Kind(ConflictMarkerKind),
     Missing,
 }
 
 // The start of the first empty arm of a choice.
-#[derive(Drop)]
+#[derive(Clone, Copy)]
 pub enum Empty {
     At(usize),
     None,
 }
 
 // The arms behind the first are stored, with how many they are.
-#[derive(Drop)]
+#[derive(Clone, Copy)]
 pub enum ArmsRead {
     Done(Current, usize, usize, usize, Empty),
     Refused(Cause, usize),
 }
 
 // An item of a sequence is stored, or the sequence ends.
-#[derive(Drop)]
+#[derive(Clone, Copy)]
 pub enum ItemRead {
     Marker(Current, usize, usize),
     Expression(Current, usize, usize, usize, Shape),
@@ -97,7 +97,7 @@ pub enum ItemRead {
 
 // The items of a sequence are stored, with how many markers and how many expressions, and the start and the shape of the
 // expression where it is the only one.
-#[derive(Drop)]
+#[derive(Clone, Copy)]
 pub enum ItemsRead {
     Done(Current, usize, usize, usize, usize, usize, Shape),
     Refused(Cause, usize),

@@ -14,21 +14,21 @@ use lexer::Kind;
 use tokens::{Arrived, Current, Eaten, Part, Taken};
 
 // What was read is stored: the current token after it, and how many words and bytes are taken.
-#[derive(Drop)]
+#[derive(Clone, Copy)]
 pub enum Parsed {
     Done(Current, usize, usize),
     Refused(Cause, usize),
 }
 
 // The same of a list, with its length.
-#[derive(Drop)]
+#[derive(Clone, Copy)]
 pub enum Listed {
     Done(Current, usize, usize, usize),
     Refused(Cause, usize),
 }
 
 // The same of a turn of a loop that ends where nothing more is found.
-#[derive(Drop)]
+#[derive(Clone, Copy)]
 pub enum Turn {
     More(Current, usize, usize),
     Over,
@@ -36,7 +36,7 @@ pub enum Turn {
 }
 
 // Whether a list goes on with an item, or is closed.
-#[derive(Drop)]
+#[derive(Clone, Copy)]
 pub enum Opened {
     Item(Current),
     Closed(Current),
@@ -85,7 +85,7 @@ impl Listed {
 }
 
 // What stands between the items of a list: a comma that must be there, one that may, nothing.
-#[derive(Drop)]
+#[derive(Clone, Copy)]
 pub enum Comma {
     Must,
     May,

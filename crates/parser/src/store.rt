@@ -13,7 +13,7 @@ use lexer::sets::Ranges;
 use tree::Record;
 
 // How many words and bytes are taken.
-#[derive(Drop)]
+#[derive(Clone, Copy)]
 pub struct Put {
     pub n: usize,
     pub x: usize,

@@ -1,4 +1,5 @@
 // What the programs share: an input that is read whole, numbers in decimal, and the line of a refusal.
+#![tactic(auto)]
 ghost use Rattle.std.specs.Prelude.{◌+◌, ◌≤◌, ◌<◌, ◌^◌, [], ◌++◌, length};
 ghost use Rattle.error.specs.Promise.{refusal_of};
 ghost use Rattle.output.specs.Promise.{Adds, Wrote};
@@ -9,7 +10,7 @@ use error::Refusal;
 use output::{put, put_byte, upto};
 
 // How many bytes of a buffer came from an input, or that a read failed.
-#[derive(Drop)]
+#[derive(Clone, Copy)]
 pub enum Input {
     Bytes(usize),
     Failed,

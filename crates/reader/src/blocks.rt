@@ -17,7 +17,7 @@ use parser::props::{Comma, Listed, Opened, Parsed};
 use tokens::{Arrived, Current, Eaten, Part};
 
 // A block whose members are stored in groups.
-#[derive(Drop)]
+#[derive(Clone, Copy)]
 pub enum Block {
     Tokens,
     LocalTokens,
@@ -27,7 +27,7 @@ pub enum Block {
 }
 
 // A member is stored: the token after it, the words and bytes that are taken, how many branches it has, its kind.
-#[derive(Drop)]
+#[derive(Clone, Copy)]
 pub enum Joined {
     Done(Current, usize, usize, usize, u32),
     Refused(Cause, usize),

@@ -21,7 +21,7 @@ use tokens::{Arrived, Current, Eaten, Taken};
 use tree::SpecializeKind;
 
 // Which kinds were seen, of those of which there is at most one.
-#[derive(Drop)]
+#[derive(Clone, Copy)]
 pub struct Seen {
     pub tokens: bool,
     pub context: bool,
@@ -30,7 +30,7 @@ pub struct Seen {
 }
 
 // A declaration is stored: the token after it, the words and bytes that are taken, its kind, whether it holds a top rule.
-#[derive(Drop)]
+#[derive(Clone, Copy)]
 pub enum Declared {
     Done(Current, usize, usize, u32, bool),
     Refused(Cause, usize),

@@ -18,7 +18,7 @@ use parser::store;
 use tokens::{Arrived, Current, Part};
 
 // What a pass has seen: which kinds, a top rule, `@detectDelim`, a list of dialects, and where the last one begins.
-#[derive(Drop)]
+#[derive(Clone, Copy)]
 pub struct Noted {
     pub seen: Seen,
     pub top: bool,
@@ -27,7 +27,7 @@ pub struct Noted {
     pub last: Current,
 }
 
-#[derive(Drop)]
+#[derive(Clone, Copy)]
 pub enum Passed {
     Done(Current, usize, usize, usize, Noted),
     Refused(Cause, usize),
@@ -55,7 +55,7 @@ impl Passed {
 }
 
 // The tree is stored: how many words and bytes it takes.
-#[derive(Drop)]
+#[derive(Clone, Copy)]
 pub enum Whole {
     Stored(usize, usize),
     Refused(Cause, usize),

@@ -1,4 +1,5 @@
 // The current token, and how it is taken: the parser's steps along the tokens of a text.
+#![tactic(auto)]
 ghost use Rattle.std.specs.Prelude.{◌≡◌};
 ghost use Rattle.error.specs.Promise.{cause_number};
 ghost use Rattle.lexer.specs.Promise.{tokens_at, number};
@@ -10,20 +11,20 @@ use lexer::{Kind, Lexed};
 
 // The current token, with its start and end, or the end of the text. A token that the lexer refuses is never current: to
 // advance onto it is refused.
-#[derive(Drop)]
+#[derive(Clone, Copy)]
 pub enum Current {
     Token(Kind, usize, usize),
     End(usize),
 }
 
-#[derive(Drop)]
+#[derive(Clone, Copy)]
 pub enum Arrived {
     At(Current),
     Refused(Cause, usize),
 }
 
 // Whether a token was taken, and then the next.
-#[derive(Drop)]
+#[derive(Clone, Copy)]
 pub enum Eaten {
     Yes(Current),
     No,
@@ -31,7 +32,7 @@ pub enum Eaten {
 }
 
 // The part of the source that was taken, and the token after it.
-#[derive(Drop)]
+#[derive(Clone, Copy)]
 pub enum Taken {
     Got(usize, usize, Current),
     Refused(Cause, usize),
@@ -79,7 +80,7 @@ impl Taken {
 }
 
 // A part of the source, or none.
-#[derive(Drop)]
+#[derive(Clone, Copy)]
 pub enum Part {
     From(usize, usize),
     Nothing,

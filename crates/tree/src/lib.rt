@@ -1,6 +1,7 @@
 // The stored tree: records of seven words, children before their parent, and the bytes of their texts.
 // Whether words and texts are one tree, and whether two trees are structurally equal. Nothing is copied, there is no stack and no
 // recursion: a branch is passed by counting back over its records.
+#![tactic(auto)]
 ghost use Rattle.std.specs.Prelude.{◌≡◌, ◌+◌, ◌-◌, ◌*◌, ◌≤◌, ◌<◌, [], ◌∷◌, reverse, length, take, eqb, ◌||◌};
 ghost use Rattle.basics.specs.Basics.{among, same, within};
 ghost use Rattle.characters.specs.Promise.{written, flat};
@@ -56,7 +57,7 @@ const WHITESPACE: [u32; 20] = [
 ];
 
 // `CharClass`, `RepeatKind`, `SpecializeKind`, `ConflictMarkerKind` and `PrecKind` of node.rs; the last with no kind as a case.
-#[derive(Drop)]
+#[derive(Clone, Copy)]
 pub enum CharClass {
     AsciiLetter,
     AsciiLowercase,
@@ -66,26 +67,26 @@ pub enum CharClass {
     Eof,
 }
 
-#[derive(Drop)]
+#[derive(Clone, Copy)]
 pub enum RepeatKind {
     Optional,
     ZeroOrMore,
     OneOrMore,
 }
 
-#[derive(Drop)]
+#[derive(Clone, Copy)]
 pub enum SpecializeKind {
     Extend,
     Specialize,
 }
 
-#[derive(Drop)]
+#[derive(Clone, Copy)]
 pub enum ConflictMarkerKind {
     Ambiguity,
     Precedence,
 }
 
-#[derive(Drop)]
+#[derive(Clone, Copy)]
 pub enum PrecKind {
     Missing,
     Left,
@@ -94,14 +95,14 @@ pub enum PrecKind {
 }
 
 // The ends of a class's spans: the first code and one past the last of each, `count` spans.
-#[derive(Drop)]
+#[derive(Clone, Copy)]
 pub struct Ranges {
     pub ends: [u32; 20],
     pub count: usize,
 }
 
 // The words of a record.
-#[derive(Drop)]
+#[derive(Clone, Copy)]
 pub struct Record {
     pub kind: u32,
     pub start: u32,
@@ -113,14 +114,14 @@ pub struct Record {
 }
 
 // What the root of a tree has to be.
-#[derive(Drop)]
+#[derive(Clone, Copy)]
 pub enum Root {
     Expression,
     Grammar,
 }
 
 // How two trees compare, or that one of them is none.
-#[derive(Drop)]
+#[derive(Clone, Copy)]
 pub enum Comparison {
     Equal,
     Different,

@@ -3,6 +3,7 @@
 //
 // Texts come on standard input, each ended by the byte 0x1E, which stands in none of them. For each its number is printed, and then the
 // line of a refusal; or a line for each record, the bytes of the texts in hexadecimal, and what `normal` prints.
+#![tactic(auto)]
 ghost use Rattle.std.specs.Prelude.{◌≤◌, length};
 
 use calls::{NormalAnswer, ReadAnswer};

@@ -6,6 +6,7 @@
 //
 // One walk serves all kinds of records: what stands before, between and after them is looked up by their kinds (specs/Walk.antt). Every
 // token has its space in front, but the first of a line.
+#![tactic(auto)]
 ghost use Rattle.std.specs.Prelude.{◌≡◌, ◌≤◌, ◌<◌};
 ghost use Rattle.lexer.specs.Tokens.{Kind};
 ghost use Rattle.spelling.specs.Spelling.{quoted, spell};
@@ -18,7 +19,7 @@ use output::{put, put_codes, put_quoted, upto, wide};
 use tree::{count, first, is_expression, kind_before, text, word};
 
 // How many bytes were written, or that the text is longer than it may be.
-#[derive(Drop)]
+#[derive(Clone, Copy)]
 pub enum Written {
     Bytes(usize),
     TooLong,
