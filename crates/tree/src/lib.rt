@@ -668,8 +668,8 @@ fn same_record(
     right_texts: &[u8],
     i: usize,
 ) -> bool
-    requires inside { Inside left_records.now left_texts.now i }
-    requires inside_2 { Inside right_records.now right_texts.now i }
+    requires left { Inside left_records.now left_texts.now i }
+    requires right { Inside right_records.now right_texts.now i }
     ensures { result ≡ same_node (node_at left_records.now left_texts.now i) (node_at right_records.now right_texts.now i) }
 {
     let kind = word(left_records, i, KIND);

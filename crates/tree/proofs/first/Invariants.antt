@@ -1,0 +1,12 @@
+use Prim.Native.Nat.{◌≤◌}
+use mathlib.Core.Path.{◌≡◌, refl, sym, ◌∙◌}
+use native.Mathlib.Omega.{arith}
+use Rattle.tree.specs.Promise.{first_element}
+use Rattle.tree.proofs.Back.{first-none, first-few, first_step}
+use Rattle.tree.proofs.first.Given as goal
+
+abbrev pub invariant-loop-need : goal.invariant-loop-need
+invariant-loop-need l = (l.i ≤ l.end) × (first_element l.records l.i l.need ≡ first_element l.records l.end l.n)
+
+abbrev pub decreases-loop-need : goal.decreases-loop-need
+decreases-loop-need l = l.i
