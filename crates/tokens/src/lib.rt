@@ -1,5 +1,6 @@
 // The current token, and how it is taken: the parser's steps along the tokens of a text.
 #![tactic(auto)]
+
 ghost use Rattle.std.specs.Prelude.{◌≡◌};
 ghost use Rattle.error.specs.Promise.{cause_number};
 ghost use Rattle.lexer.specs.Promise.{tokens_at, number};
