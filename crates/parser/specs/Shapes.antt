@@ -348,7 +348,7 @@ abbrev pub parse_set : List ℕ → (start : ℕ) → (inverted : Bool) → (a e
 parse_set s p i a e = parse_set_expression p i (part_of s a e)
 
 -- a marker, at its mark
-unfoldable pub parse_marker : (start : ℕ) → ConflictMarkerKind → Parser ℕ (Option (ItemMut ℕ))
+unfoldable pub parse_marker : (start : ℕ) → ConflictMarkerKind → Parser ℕ (Option (Item ℕ))
 parse_marker p m = do
   next
   n ← parse_identifier

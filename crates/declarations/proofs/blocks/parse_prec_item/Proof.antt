@@ -1,7 +1,7 @@
 -- `blocks::parse_prec_item` meets its contract.
 -- Assumes nothing.
 use native.Mathlib.Omega.{arith}
-use Rattle.parser.proofs.Ready.{name-got, part-short, put_asks, taken_at, taken_not}
+use Rattle.parser.proofs.Ready.{name-got, part-short, put_asks, taken_at, identifier_at, taken_not, identifier_not}
 use Rattle.declarations.proofs.BlocksLaws.{prec_taken, prec_taken_not, item-nameless, item_kindless, item-given}
 use Rattle.tokens.proofs.Told.{taken_told}
 use Rattle.declarations.proofs.BlocksLaws.{prec_told}
@@ -27,7 +27,7 @@ place_requires c κs = search rules
 returns : tie.Need-returns
 returns c =
     let c4 = c.before.before.before.before in
-    item-nameless _ (taken_not _ _ _ c4.parse-identifier.ensures.takes (taken_told c.before.before.enum_told.given.1 c.before.cause.ensures c.place.ensures))
+    item-nameless _ (identifier_not _ _ _ c4.parse-identifier.ensures (taken_told c.before.before.enum_told.given.1 c.before.cause.ensures c.place.ensures))
 
 parse-prec-kind-requires : tie.Need-parse-prec-kind-requires
 parse-prec-kind-requires c κs =
@@ -52,7 +52,7 @@ returns_2 c =
     let c4 = c.before.before.before.before in
     let c6 = c4.before.before in
     let c8 = c6.before.before in
-    item_kindless _ (taken_at _ _ _ c8.parse-identifier.ensures.takes c6.taken.given.1) (prec_taken_not _ _ c4.parse-prec-kind.result c4.parse-prec-kind.ensures (prec_told c.before.before.enum-told2.given.1 c.before.cause2.ensures c.place2.ensures))
+    item_kindless _ (identifier_at _ _ _ c8.parse-identifier.ensures c6.taken.given.1) (prec_taken_not _ _ c4.parse-prec-kind.result c4.parse-prec-kind.ensures (prec_told c.before.before.enum-told2.given.1 c.before.cause2.ensures c.place2.ensures))
 
 sub_put-named : tie.Need-overflow-sub-put-named
 sub_put-named c =

@@ -3,7 +3,7 @@
 use Rattle.tokens.proofs.Told.{taken_told}
 use borrow.Author.Rules.{rules}
 use native.Mathlib.Omega.{arith}
-use Rattle.parser.proofs.Ready.{part-short, name-got, put_asks, taken_at, taken_not}
+use Rattle.parser.proofs.Ready.{part-short, name-got, put_asks, taken_at, identifier_at, taken_not, identifier_not}
 use Rattle.parser.proofs.HeadRules.{short_asks}
 use Rattle.declarations.proofs.SourceLaws.{source-at, source_not, source-few}
 use Rattle.declarations.proofs.PropLaws.{as_at, as_not, prop-name, prop_as, prop-source, prop-given, name-next, prop-last}
@@ -28,7 +28,7 @@ place_requires c κs = search rules
 returns : tie.Need-returns
 returns c =
     let c4 = c.before.before.before.before in
-    prop-name _ _ (taken_not _ _ _ c4.parse-identifier.ensures.takes (taken_told c.before.before.enum_told.given.1 c.before.cause.ensures c.place.ensures))
+    prop-name _ _ (identifier_not _ _ _ c4.parse-identifier.ensures (taken_told c.before.before.enum_told.given.1 c.before.cause.ensures c.place.ensures))
 
 parse-as-requires : tie.Need-parse-as-requires
 parse-as-requires c κs =
@@ -53,7 +53,7 @@ returns_2 c =
     let c4 = c.before.before.before.before in
     let c6 = c4.before.before in
     let c8 = c6.before.before in
-    prop_as _ _ (taken_at _ _ _ c8.parse-identifier.ensures.takes c6.taken.given.1) (as_not _ _ _ _ _ c4.parse-as.ensures (taken_told c.before.before.enum-told2.given.1 c.before.cause2.ensures c.place2.ensures))
+    prop_as _ _ (identifier_at _ _ _ c8.parse-identifier.ensures c6.taken.given.1) (as_not _ _ _ _ _ c4.parse-as.ensures (taken_told c.before.before.enum-told2.given.1 c.before.cause2.ensures c.place2.ensures))
 
 parse-source-requires : tie.Need-parse-source-requires
 parse-source-requires c κs = (as_at _ _ _ _ _ c.before.before.before.parse-as.ensures c.before.known.given.1).onward.lies
@@ -77,7 +77,7 @@ returns_3 c =
     let c8 = c6.before.before in
     let c10 = c8.before.before in
     let c12 = c10.before.before in
-    prop-source _ _ (taken_at _ _ _ c12.parse-identifier.ensures.takes c10.taken.given.1) (as_at _ _ _ _ _ c8.parse-as.ensures c6.known.given.1).gives (source_not _ _ _ c4.parse-source.ensures (taken_told c.before.before.enum-told3.given.1 c.before.cause3.ensures c.place3.ensures))
+    prop-source _ _ (identifier_at _ _ _ c12.parse-identifier.ensures c10.taken.given.1) (as_at _ _ _ _ _ c8.parse-as.ensures c6.known.given.1).gives (source_not _ _ _ c4.parse-source.ensures (taken_told c.before.before.enum-told3.given.1 c.before.cause3.ensures c.place3.ensures))
 
 sub_put-named : tie.Need-overflow-sub-put-named
 sub_put-named c =

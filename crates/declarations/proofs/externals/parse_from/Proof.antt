@@ -3,7 +3,7 @@
 use Rattle.tokens.proofs.Told.{taken_told}
 use borrow.Author.Rules.{rules}
 use native.Mathlib.Omega.{arith}
-use Rattle.parser.proofs.Ready.{part-short, name-got, taken_at, taken_not}
+use Rattle.parser.proofs.Ready.{part-short, name-got, taken_at, identifier_at, taken_not, identifier_not}
 use Rattle.parser.proofs.HeadRules.{short_asks}
 use Rattle.declarations.proofs.SourceLaws.{source-at, source_not, from-name, from-source, from-given, from-small, source-few, source-next}
 use Rattle.declarations.proofs.externals.parse_from.Statement.{statement}
@@ -27,7 +27,7 @@ place_requires c κs = search rules
 returns : tie.Need-returns
 returns c =
     let c4 = c.before.before.before.before in
-    from-name _ (taken_not _ _ _ c4.parse-identifier.ensures.takes (taken_told c.before.before.enum_told.given.1 c.before.cause.ensures c.place.ensures))
+    from-name _ (identifier_not _ _ _ c4.parse-identifier.ensures (taken_told c.before.before.enum_told.given.1 c.before.cause.ensures c.place.ensures))
 
 parse-source-requires : tie.Need-parse-source-requires
 parse-source-requires c κs =
@@ -52,7 +52,7 @@ returns_2 c =
     let c4 = c.before.before.before.before in
     let c6 = c4.before.before in
     let c8 = c6.before.before in
-    from-source _ (taken_at _ _ _ c8.parse-identifier.ensures.takes c6.taken.given.1) (source_not _ _ _ c4.parse-source.ensures (taken_told c.before.before.enum-told2.given.1 c.before.cause2.ensures c.place2.ensures))
+    from-source _ (identifier_at _ _ _ c8.parse-identifier.ensures c6.taken.given.1) (source_not _ _ _ c4.parse-source.ensures (taken_told c.before.before.enum-told2.given.1 c.before.cause2.ensures c.place2.ensures))
 
 sub-put-string : tie.Need-overflow-sub-put-string
 sub-put-string c = (source-at _ _ _ c.before.before.before.parse-source.ensures c.before.sourced.given.1).part.forth

@@ -1,7 +1,7 @@
 -- `rules::parse_name` meets its contract.
 -- Assumes nothing.
 use native.Mathlib.Omega.{arith}
-use Rattle.parser.proofs.Ready.{name-got, put_asks, part-short, taken_not}
+use Rattle.parser.proofs.Ready.{name-got, put_asks, part-short, taken_not, identifier_not}
 use Rattle.parser.proofs.HeadRules.{name-given}
 use Rattle.tokens.proofs.Told.{taken_told}
 use borrow.Author.Rules.{rules}
@@ -24,7 +24,7 @@ place_requires : tie.Need-place-requires
 place_requires c κs = search rules
 
 returns : tie.Need-returns
-returns c = taken_not _ _ _ c.before.before.before.before.parse-identifier.ensures.takes (taken_told c.before.before.enum_told.given.1 c.before.cause.ensures c.place.ensures)
+returns c = identifier_not _ _ _ c.before.before.before.before.parse-identifier.ensures (taken_told c.before.before.enum_told.given.1 c.before.cause.ensures c.place.ensures)
 
 sub_put-named : tie.Need-overflow-sub-put-named
 sub_put-named c =

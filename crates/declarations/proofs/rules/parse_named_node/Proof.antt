@@ -2,7 +2,7 @@
 -- Assumes nothing.
 use native.Mathlib.Omega.{arith}
 use Rattle.tree.specs.Stored.{prop_branch}
-use Rattle.parser.proofs.Ready.{ready_step, ready_on, name-got, put_asks, part-short, lists-small, taken_at, taken_not}
+use Rattle.parser.proofs.Ready.{ready_step, ready_on, name-got, put_asks, part-short, lists-small, taken_at, identifier_at, taken_not, identifier_not}
 use Rattle.parser.proofs.Openings.{listed, listed_not}
 use Rattle.declarations.proofs.RuleReads.{node-name, node-props, node-given}
 use Rattle.tokens.proofs.Told.{taken_told}
@@ -29,7 +29,7 @@ place_requires c κs = search rules
 returns : tie.Need-returns
 returns c =
     let c4 = c.before.before.before.before in
-    node-name _ (taken_not _ _ _ c4.parse-identifier.ensures.takes (taken_told c.before.before.enum_told.given.1 c.before.cause.ensures c.place.ensures))
+    node-name _ (identifier_not _ _ _ c4.parse-identifier.ensures (taken_told c.before.before.enum_told.given.1 c.before.cause.ensures c.place.ensures))
 
 parse-props-requires : tie.Need-parse-props-requires
 parse-props-requires c κs =
@@ -61,7 +61,7 @@ returns_2 c =
     let c8 = c.before.before.before.before.before.before.before.before in
     let c12 = c8.before.before.before.before in
     let c14 = c12.before.before in
-    node-props _ (taken_at _ _ _ c14.parse-identifier.ensures.takes c12.taken.given.1) (listed_not _ _ _ _ _ _ _ _ _ c8.parse-props.ensures (listed_told c.before.before.enum-told2.given.1 c.before.cause2.ensures c.place2.ensures))
+    node-props _ (identifier_at _ _ _ c14.parse-identifier.ensures c12.taken.given.1) (listed_not _ _ _ _ _ _ _ _ _ c8.parse-props.ensures (listed_told c.before.before.enum-told2.given.1 c.before.cause2.ensures c.place2.ensures))
 
 sub_put-named : tie.Need-overflow-sub-put-named
 sub_put-named c =

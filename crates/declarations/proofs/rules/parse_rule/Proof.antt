@@ -1,7 +1,7 @@
 -- `rules::parse_rule` meets its contract.
 -- Assumes nothing.
 use native.Mathlib.Omega.{arith}
-use Rattle.parser.proofs.Ready.{ready_step, ready_on, name-got, put_asks, part-short, taken_at, taken_not}
+use Rattle.parser.proofs.Ready.{ready_step, ready_on, name-got, put_asks, part-short, taken_at, identifier_at, taken_not, identifier_not}
 use Rattle.parser.proofs.Took.{head_read, head_not}
 use Rattle.parser.proofs.InnerLaws.{braced-read, braced_not}
 use Rattle.declarations.proofs.RuleReads.{rule-name, rule-head, rule-body, head_small, rule-given}
@@ -29,7 +29,7 @@ place_requires c κs = search rules
 returns : tie.Need-returns
 returns c =
     let c4 = c.before.before.before.before in
-    rule-name _ (taken_not _ _ _ c4.parse-identifier.ensures.takes (taken_told c.before.before.enum_told.given.1 c.before.cause.ensures c.place.ensures))
+    rule-name _ (identifier_not _ _ _ c4.parse-identifier.ensures (taken_told c.before.before.enum_told.given.1 c.before.cause.ensures c.place.ensures))
 
 rule-head_requires : tie.Need-rule-head-requires
 rule-head_requires c κs =
@@ -61,7 +61,7 @@ returns_2 c =
     let c8 = c.before.before.before.before.before.before.before.before in
     let c12 = c8.before.before.before.before in
     let c14 = c12.before.before in
-    rule-head _ (taken_at _ _ _ c14.parse-identifier.ensures.takes c12.taken.given.1) (head_not _ _ _ _ _ _ c8.rule-head.ensures (headed_told c.before.before.enum-told2.given.1 c.before.cause2.ensures c.place2.ensures))
+    rule-head _ (identifier_at _ _ _ c14.parse-identifier.ensures c12.taken.given.1) (head_not _ _ _ _ _ _ c8.rule-head.ensures (headed_told c.before.before.enum-told2.given.1 c.before.cause2.ensures c.place2.ensures))
 
 braced_requires : tie.Need-braced-requires
 braced_requires c κs =
@@ -97,7 +97,7 @@ returns_3 c =
     let c18 = c12.before.before.before.before.before.before in
     let c22 = c18.before.before.before.before in
     let c24 = c22.before.before in
-    let h = head_read _ _ _ _ _ _ c18.rule-head.ensures c12.head.given.1 in rule-body _ (taken_at _ _ _ c24.parse-identifier.ensures.takes c22.taken.given.1) h.gives (braced_not _ _ _ _ _ _ _ c8.braced.ensures (expressed_told c.before.before.enum-told3.given.1 c.before.cause3.ensures c.place3.ensures))
+    let h = head_read _ _ _ _ _ _ c18.rule-head.ensures c12.head.given.1 in rule-body _ (identifier_at _ _ _ c24.parse-identifier.ensures c22.taken.given.1) h.gives (braced_not _ _ _ _ _ _ _ c8.braced.ensures (expressed_told c.before.before.enum-told3.given.1 c.before.cause3.ensures c.place3.ensures))
 
 sub_put-named : tie.Need-overflow-sub-put-named
 sub_put-named c =

@@ -2,7 +2,7 @@
 -- Assumes nothing.
 use native.Mathlib.Omega.{arith}
 use Rattle.parser.proofs.HeadRules.{short_asks}
-use Rattle.parser.proofs.Ready.{part-short, name-got, taken_at, taken_not}
+use Rattle.parser.proofs.Ready.{part-short, name-got, taken_at, identifier_at, taken_not, identifier_not}
 use Rattle.declarations.proofs.SourceLaws.{source-at, source_not, from-small}
 use Rattle.reader.proofs.RoomyLaws.{roomy_ready}
 use Rattle.reader.proofs.Gathered.{gathered, gathered_not}
@@ -31,7 +31,7 @@ place_requires c κs = search rules
 returns : tie.Need-returns
 returns c =
     let c4 = c.before.before.before.before in
-    set-name _ _ (taken_not _ _ _ c4.parse-identifier.ensures.takes (taken_told c.before.before.enum_told.given.1 c.before.cause.ensures c.place.ensures))
+    set-name _ _ (identifier_not _ _ _ c4.parse-identifier.ensures (taken_told c.before.before.enum_told.given.1 c.before.cause.ensures c.place.ensures))
 
 parse-source-requires : tie.Need-parse-source-requires
 parse-source-requires c κs =
@@ -56,7 +56,7 @@ returns_2 c =
     let c4 = c.before.before.before.before in
     let c6 = c4.before.before in
     let c8 = c6.before.before in
-    set-source _ _ (taken_at _ _ _ c8.parse-identifier.ensures.takes c6.taken.given.1) (source_not _ _ _ c4.parse-source.ensures (taken_told c.before.before.enum-told2.given.1 c.before.cause2.ensures c.place2.ensures))
+    set-source _ _ (identifier_at _ _ _ c8.parse-identifier.ensures c6.taken.given.1) (source_not _ _ _ c4.parse-source.ensures (taken_told c.before.before.enum-told2.given.1 c.before.cause2.ensures c.place2.ensures))
 
 sub-put-string : tie.Need-overflow-sub-put-string
 sub-put-string c = (source-at _ _ _ c.before.before.before.parse-source.ensures c.before.sourced.given.1).part.forth
@@ -109,7 +109,7 @@ returns_3 c =
     let c22 = c20.before.before in
     let c24 = c22.before.before in
     let c26 = c24.before.before in
-    set-block _ _ (taken_at _ _ _ c26.parse-identifier.ensures.takes c24.taken.given.1) (source-at _ _ _ c22.parse-source.ensures c20.sourced.given.1).gives (gathered_not _ _ _ _ _ _ _ _ c8.parse-block.result c8.parse-block.ensures (listed_told c.before.before.enum-told3.given.1 c.before.cause3.ensures c.place3.ensures))
+    set-block _ _ (identifier_at _ _ _ c26.parse-identifier.ensures c24.taken.given.1) (source-at _ _ _ c22.parse-source.ensures c20.sourced.given.1).gives (gathered_not _ _ _ _ _ _ _ _ c8.parse-block.result c8.parse-block.ensures (listed_told c.before.before.enum-told3.given.1 c.before.cause3.ensures c.place3.ensures))
 
 sub_put-named : tie.Need-overflow-sub-put-named
 sub_put-named c =
