@@ -74,7 +74,7 @@ prec_item-longer x ks = go x.kind
 
 -- ------------------------------------------------------------------ one declaration
 
--- a member that is written: a declaration, a list of dialects that is not empty, an external prop, or `@detect_delim`
+-- a member that is written: a declaration, a list of dialects that is not empty, an external prop, or `@detectDelim`
 abbrev pub member_tokens : Member U → List Kind → List Kind
 member_tokens (declaration d) ks = declaration_tokens d ks
 member_tokens (dialects ns) ks = at "dialects" (mark "{" (commas identifier ns (mark "}" ks)))
