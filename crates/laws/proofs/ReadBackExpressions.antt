@@ -151,7 +151,7 @@ module _ (R : Grade) (below : Parser U (Expression U)) (below-reads : (e : Expre
 
   set_reads : (i : Bool) (ss : List Span) → ReadBack ss → (ks : List Kind) → Reads (parse_expression_inner below) (Kind.set i (spans_text ss) ∷ ks) (set tt i ss) ks
   unfolding parse_expression_inner inner_by parse_set_expression set_by
-  set_reads i ss g ks = bind_reads _ (here_reads _) (bind_reads _ (kind-reads _ refl) (rw (spans-back g.spelled, g.sound, set_by) (bind_reads _ (next-reads _ ks) (rw g.ordered (pure-reads _ ks)))))
+  set_reads i ss g ks = bind_reads _ (here_reads _) (bind_reads _ (kind-reads _ refl) (rw (spans-back g.spelled, g.sound, set_by) (bind_reads _ (next-reads _ ks) (rw (spans-back g.spelled, g.ordered) (pure-reads _ ks)))))
 
   any-reads : (ks : List Kind) → Reads (parse_expression_inner below) (Kind.name (letters "_") ∷ ks) (any tt) ks
   unfolding parse_expression_inner inner_by same
