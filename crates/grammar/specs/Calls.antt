@@ -1,6 +1,6 @@
 -- The library's calls: for any arguments, what each answers and what every lent buffer holds afterwards.
 -- Assumes nothing.
-use Rattle.std.specs.Prelude.{ℕ, Bool, ◌||◌, List, [], ◌++◌, ltb, length}
+use Rattle.std.specs.Prelude.{ℕ, Bool, ◌||◌, List, [], ltb, length}
 use Rattle.std.proofs.Math.Option.{Option, none, some}
 use Rattle.basics.specs.Basics.{if◌then◌else◌, over}
 use Rattle.error.specs.Causes.{records_full, texts_full, output_full, not_aTree}

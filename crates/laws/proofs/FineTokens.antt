@@ -16,7 +16,6 @@ use Rattle.characters.specs.Utf8.{first_char, on_char, codes_from, codes, is_sca
 use Rattle.characters.proofs.Chars.{Scalars, none_left, one_more}
 use Rattle.characters.proofs.Heads.{stands}
 use Rattle.lexer.specs.Tokens.{Kind, comment, body, never, Piece, blank, token, bad, comment_of, string_of, set_of, at_of, solid, piece, Tokens, lay, tokens_from, tokens}
-use Rattle.lexer.specs.Tokens as T
 use Rattle.lexer.specs.Escapes.{escape, Atom, escaped_by, atoms_from, decode_string}
 use Rattle.lexer.proofs.Back.{Words, no_more}
 use Rattle.lexer.proofs.Back as B

@@ -10,7 +10,7 @@ use mathlib.Core.Option.{Option, none, some}
 use Rattle.basics.specs.Basics.{if◌then◌else◌}
 use Rattle.basics.proofs.Tests.{clash}
 use Rattle.lexer.specs.Tokens.{Kind, Tokens, token, eof, bad}
-use Rattle.notation.specs.Parser.{Answer, read, refused, Parser, and_then, ◌>>=◌, ◌>>◌, pure, refuse, choose, here, refuse_here, kind_of, kind, arrive, next, name_in, at_in, string_in, is_mark, says, eat_if, eat, eat_name, eat_at, must, expect, expect_name, taken, expect_string, parse_identifier, size, turns, loop, separate, until_step, until, comma_or_not, nothing}
+use Rattle.notation.specs.Parser.{Answer, read, refused, Parser, and_then, ◌>>=◌, pure, refuse, choose, here, refuse_here, kind_of, kind, arrive, next, name_in, at_in, string_in, is_mark, says, eat_if, eat, eat_name, eat_at, must, expect, expect_name, taken, expect_string, parse_identifier, size, turns, loop, separate, until_step, until, comma_or_not, nothing}
 use Rattle.characters.proofs.Chars.{Scalars}
 use Rattle.laws.proofs.Fine.{U, Word, FineKind, fine-name, fine-at, fine-string, fine-set, fine-mark, Fine, fine-token}
 use Rattle.laws.proofs.Readable.{GoodName}

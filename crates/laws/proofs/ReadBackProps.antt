@@ -11,7 +11,7 @@ use lib.ListN.{length}
 use Rattle.basics.specs.Basics.{if◌then◌else◌, first_element}
 use Rattle.lexer.specs.Tokens.{Kind}
 use Rattle.tree.specs.Syntax.{PropPart, value, Prop}
-use Rattle.notation.specs.Parser.{Parser, ◌>>=◌, ◌>>◌, pure, choose, is_mark, eat, loop, comma}
+use Rattle.notation.specs.Parser.{Parser, ◌>>=◌, pure, choose, is_mark, eat, loop, comma}
 use Rattle.notation.specs.Expressions.{part_by, parse_part, prop_named, prop_by, parse_prop, parse_props}
 use Rattle.spelling.specs.NormalText.{each, each_after, mark, prop_name, part_tokens, value_tokens, prop_tokens, props_tokens}
 use Rattle.spelling.proofs.Back.{decode_back}
