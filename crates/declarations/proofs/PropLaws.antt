@@ -27,7 +27,7 @@ use Rattle.tokens.specs.declared.Current.{Current}
 use Rattle.tokens.specs.declared.Taken.{Taken}
 use Rattle.tokens.specs.declared.Taken.TheVariants as G
 use Rattle.parser.proofs.Onward.{onward-here, onward_then, onward-least}
-use Rattle.parser.proofs.Ready.{Short, part-short, cut-length, name-got, taken_at, identifier_at, taken_not, identifier_not}
+use Rattle.parser.proofs.Ready.{Short, part-short, cut-length, name-got, taken_at, identifier_at, taken_not}
 use Rattle.parser.proofs.Stored.{stores-then}
 use Rattle.declarations.specs.Sources.{GotSource, as_name, GotId, TakesId}
 use Rattle.declarations.proofs.SourceLaws.{from-small}

@@ -24,7 +24,7 @@ use Rattle.parser.specs.Steps.{Onward, Ready, Gives, Lists, ParsesList}
 use Rattle.parser.specs.Shapes.{Yields, YieldsBraced, Head, parse_head, Heads}
 use Rattle.tokens.specs.declared.Current.{Current}
 use Rattle.tokens.specs.declared.Arrived.{Arrived}
-use Rattle.tokens.specs.declared.Arrived.TheVariants.{At, Refused}
+use Rattle.tokens.specs.declared.Arrived.TheVariants.{At}
 use Rattle.tokens.specs.declared.Taken.{Taken}
 use Rattle.tokens.specs.declared.Taken.TheVariants as G
 use Rattle.tokens.specs.declared.Part.TheVariants.{From}
@@ -35,7 +35,7 @@ use Rattle.parser.specs.declared.parts.Shape.TheVariants.{Name, Literal, Repeat,
 use Rattle.tokens.proofs.Stream.{start-of}
 use Rattle.parser.proofs.Onward.{placed_in, onward_then, onward-least, expect-onward}
 use Rattle.parser.proofs.Lists.{lays-then, lays-between}
-use Rattle.parser.proofs.Ready.{name-got, next-got, got-less, string-in, stored-text, lays_parent, arrived-at, taken_at, identifier_at, nodes-each, count-each, nodes-over, flat-length}
+use Rattle.parser.proofs.Ready.{name-got, next-got, got-less, string-in, stored-text, lays_parent, arrived-at, identifier_at, nodes-each, count-each, nodes-over, flat-length}
 use Rattle.parser.proofs.Took.{expect-at}
 use Rattle.parser.proofs.InnerRules.{rule-is}
 

@@ -34,7 +34,7 @@ use Rattle.tokens.specs.declared.Taken.{Taken}
 use Rattle.tokens.specs.declared.Taken.TheVariants as G
 use Rattle.tokens.proofs.Stream.{start-of}
 use Rattle.parser.proofs.Onward.{if_true, next-onward, onward_then, onward-least, placed_in}
-use Rattle.parser.proofs.Ready.{part-short, cut-length, stored-text, name-got, string-got, taken_at, identifier_at, taken_not, identifier_not}
+use Rattle.parser.proofs.Ready.{part-short, cut-length, stored-text, name-got, string-got, taken_at, identifier_at, taken_not}
 use Rattle.parser.proofs.Stored.{stores-then}
 use Rattle.declarations.specs.Sources.{GotSource, TakesSource, IdSource, from_source, from_branch}
 

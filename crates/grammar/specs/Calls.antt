@@ -3,7 +3,7 @@
 use Rattle.std.specs.Prelude.{ℕ, Bool, ◌||◌, List, [], ltb, length}
 use Rattle.std.proofs.Math.Option.{Option, none, some}
 use Rattle.basics.specs.Basics.{if◌then◌else◌, over}
-use Rattle.error.specs.Causes.{records_full, texts_full, output_full, not_aTree}
+use Rattle.error.specs.Causes.{records_full, texts_full, output_full, not_a_tree}
 use Rattle.error.specs.Lines.{Refusal, line_feeds, line_start, line_at, column_at, refusal_at}
 use Rattle.tree.specs.Records.{Branch}
 use Rattle.tree.specs.Stored.{grammar_words, grammar_texts}
@@ -97,8 +97,8 @@ pub data CompareAnswer : Type 0 where
 -- by the two trees, of which either may be none
 abbrev pub compare_by : Option Branch → Option Branch → CompareAnswer
 compare_by (some b) (some c) = compared (structurally_eq b c)
-compare_by (some b) none = refused (refusal_at [] not_aTree 0)
-compare_by none c = refused (refusal_at [] not_aTree 0)
+compare_by (some b) none = refused (refusal_at [] not_a_tree 0)
+compare_by none c = refused (refusal_at [] not_a_tree 0)
 
 -- `structurally_eq`: two stored expressions
 unfoldable pub compare : (left_records left_texts right_records right_texts : List ℕ) → CompareAnswer

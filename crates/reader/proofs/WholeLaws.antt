@@ -75,7 +75,7 @@ top_one detect_delim = refl
 top-more : (ms : List (Member ℕ)) (m : Member ℕ) → has_top (picked declared (ms ++ m ∷ [])) ≡ has_top (picked declared ms) || member_top m
 top-more ms m = rw (picked-one declared ms m, tops-more (picked declared ms) (or_not (declared m) []), top_one m)
 
--- no declaration has the kind of `@detect_delim` or of dialects
+-- no declaration has the kind of `@detectDelim` or of dialects
 no_detect : (d : Declaration ℕ) → eqb (declaration_kind d) 1 ≡ false
 no_detect (Declaration.top_rule r) = refl
 no_detect (Declaration.rule r) = refl

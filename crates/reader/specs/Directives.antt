@@ -75,7 +75,7 @@ set_nodes b k p v before x =
     let bs = groups_of (kind_of b) (branches_of b) (kinds_of b) x.members in
     nodes (source_branch x.source) ++ flat nodes bs ++ node k p (encode_all x.id) v 0 (before + 1 + length bs) ∷ []
 
--- the kind of what stands at top level; `@detect_delim` is a value of the grammar's record, 1
+-- the kind of what stands at top level; `@detectDelim` is a value of the grammar's record, 1
 abbrev pub member_kind : Member ℕ → ℕ
 member_kind (declaration d) = declaration_kind d
 member_kind (dialects ns) = 24

@@ -266,7 +266,7 @@ unfoldable mutual
 abbrev pub dialect_ends : List Entry
 dialect_ends = 24 says " }\n" ∷ []
 
--- `@detect_delim`, by the grammar's value
+-- `@detectDelim`, by the grammar's value
 abbrev pub detect_words : List Entry
 detect_words = 1 says "@detectDelim\n" ∷ []
 

@@ -6,7 +6,6 @@ use Rattle.parser.proofs.Openings.{parsed, parsed_not}
 use Rattle.declarations.proofs.BlocksLaws.{pair_halt, pair_comma, pair_second, pair_unclosed, comma-onward, pair_given}
 use Rattle.tokens.proofs.Told.{arrived_told}
 use Rattle.parser.proofs.Told.{parsed_told}
-use borrow.Author.Rules.{rules}
 use Rattle.declarations.proofs.blocks.conflict_pair.Goals as goal
 
 pub returns-in_default : goal.returns-in_default

@@ -1,11 +1,10 @@
 -- `blocks::parse_prec_item` meets its contract.
 -- Assumes nothing.
 use native.Mathlib.Omega.{arith}
-use Rattle.parser.proofs.Ready.{name-got, part-short, put_asks, taken_at, identifier_at, taken_not, identifier_not}
+use Rattle.parser.proofs.Ready.{name-got, part-short, put_asks, identifier_at, identifier_not}
 use Rattle.declarations.proofs.BlocksLaws.{prec_taken, prec_taken_not, item-nameless, item_kindless, item-given}
 use Rattle.tokens.proofs.Told.{taken_told}
 use Rattle.declarations.proofs.BlocksLaws.{prec_told}
-use borrow.Author.Rules.{rules}
 use Rattle.declarations.proofs.blocks.parse_prec_item.Goals as goal
 
 pub returns-in_default : goal.returns-in_default

@@ -5,7 +5,6 @@ use Rattle.basics.specs.Basics.{every}
 use Rattle.tokens.proofs.Stream.{at-whole}
 use Rattle.parser.proofs.Onward.{onward-here}
 use Rattle.declarations.proofs.BlocksLaws.{word_yes, word_no, word_not, left_not, left_yes, right_not, right_yes, cut_not, cut_yes, kind-none, prec_got}
-use borrow.Author.Rules.{rules}
 use Rattle.declarations.proofs.blocks.parse_prec_kind.Goals as goal
 
 pub eat_at-requires : goal.eat_at-requires

@@ -7,7 +7,6 @@ use Rattle.parser.proofs.Openings.{listed, listed_not}
 use Rattle.declarations.proofs.BlocksLaws.{precedence-block, prec_by, prec_nodes, made, next-refused, brace-refused, list_halt, list_onward, block_asks, block-given}
 use Rattle.tokens.proofs.Told.{arrived_told}
 use Rattle.parser.proofs.Told.{listed_told}
-use borrow.Author.Rules.{rules}
 use Rattle.declarations.proofs.blocks.parse_precedence.Goals as goal
 
 pub returns-in_default : goal.returns-in_default

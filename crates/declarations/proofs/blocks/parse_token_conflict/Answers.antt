@@ -6,7 +6,6 @@ use Rattle.parser.proofs.Openings.{listed, listed_not}
 use Rattle.declarations.proofs.BlocksLaws.{conflict-block, conflict_by, pair_two, conflict-nodes, conflict-made, next-refused, brace-refused, list_halt, list_onward, block_asks, block-given}
 use Rattle.tokens.proofs.Told.{arrived_told}
 use Rattle.parser.proofs.Told.{listed_told}
-use borrow.Author.Rules.{rules}
 use Rattle.declarations.proofs.blocks.parse_token_conflict.Goals as goal
 
 pub returns-in_default : goal.returns-in_default

@@ -4,15 +4,11 @@ use native.Mathlib.Omega.{arith}
 use mathlib.Core.Path.{refl}
 use Rattle.notation.specs.Declarations.{parse_prec_item}
 use Rattle.tree.specs.Stored.{prec_item_branch}
-use Rattle.notation.specs.Parser.{size, until_step, eat, comma_or_not}
-use Rattle.tokens.specs.Promise.{stream}
-use Rattle.parser.specs.Storing.{lent, nodes_of}
 use Rattle.parser.specs.declared.props.Comma.TheVariants.{May}
 use Rattle.parser.proofs.Ready.{ready_step, ready_on, listing-small}
-use Rattle.parser.proofs.Lists.{Listing, listing_start}
+use Rattle.parser.proofs.Lists.{listing_start}
 use Rattle.parser.proofs.Openings.{item-onward, list_closed, list_refused, item_refused, item-more}
 use Rattle.parser.proofs.Told.{parsed_told}
-use borrow.Author.Rules.{rules}
 use Rattle.declarations.proofs.blocks.prec_items_list.Goals as goal
 
 pub loop-u-init : goal.loop-u-init

@@ -1,6 +1,5 @@
 -- `externals::parse_as` meets its contract.
 -- Assumes nothing.
-use borrow.Author.Rules.{rules}
 use Rattle.tokens.proofs.Stream.{name-whole}
 use Rattle.declarations.proofs.SourceLaws.{word_yes, word_no, word_not, word-onward}
 use Rattle.declarations.proofs.PropLaws.{as_plain, as_refused, as_same, as_taken}

@@ -1,9 +1,8 @@
 -- `externals::parse_external_prop` meets its contract.
 -- Assumes nothing.
 use Rattle.tokens.proofs.Told.{taken_told}
-use borrow.Author.Rules.{rules}
 use native.Mathlib.Omega.{arith}
-use Rattle.parser.proofs.Ready.{part-short, name-got, put_asks, taken_at, identifier_at, taken_not, identifier_not}
+use Rattle.parser.proofs.Ready.{part-short, name-got, put_asks, identifier_at, identifier_not}
 use Rattle.parser.proofs.HeadRules.{short_asks}
 use Rattle.declarations.proofs.SourceLaws.{source-at, source_not, source-few}
 use Rattle.declarations.proofs.PropLaws.{as_at, as_not, prop-name, prop_as, prop-source, prop-given, name-next, prop-last}

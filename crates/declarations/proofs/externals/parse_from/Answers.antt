@@ -1,9 +1,8 @@
 -- `externals::parse_from` meets its contract.
 -- Assumes nothing.
 use Rattle.tokens.proofs.Told.{taken_told}
-use borrow.Author.Rules.{rules}
 use native.Mathlib.Omega.{arith}
-use Rattle.parser.proofs.Ready.{part-short, name-got, taken_at, identifier_at, taken_not, identifier_not}
+use Rattle.parser.proofs.Ready.{part-short, name-got, identifier_at, identifier_not}
 use Rattle.parser.proofs.HeadRules.{short_asks}
 use Rattle.declarations.proofs.SourceLaws.{source-at, source_not, from-name, from-source, from-given, from-small, source-few, source-next}
 use Rattle.declarations.proofs.externals.parse_from.Goals as goal

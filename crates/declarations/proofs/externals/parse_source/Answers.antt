@@ -1,6 +1,5 @@
 -- `externals::parse_source` meets its contract.
 -- Assumes nothing.
-use borrow.Author.Rules.{rules}
 use Rattle.tokens.proofs.Stream.{name-whole}
 use Rattle.declarations.proofs.SourceLaws.{word_yes, word_no, word_not, word-onward, source-refused, source_no, source-taken, from-plain}
 use Rattle.declarations.proofs.externals.parse_source.Goals as goal

@@ -3,15 +3,12 @@
 use native.Mathlib.Omega.{arith}
 use mathlib.Core.Path.{refl}
 use Rattle.parser.proofs.Ready.{ready_step, ready_on, listing-small}
-use Rattle.parser.proofs.Lists.{Listing, listing_start}
+use Rattle.parser.proofs.Lists.{listing_start}
 use Rattle.parser.proofs.Openings.{item-onward, list_closed, list_refused, item_refused, item-more}
-use Rattle.notation.specs.Parser.{size, until_step, eat, comma_or_not, parse_identifier}
-use Rattle.tokens.specs.Promise.{stream}
-use Rattle.parser.specs.Storing.{lent, nodes_of}
+use Rattle.notation.specs.Parser.{parse_identifier}
 use Rattle.parser.specs.declared.props.Comma.TheVariants.{May}
 use Rattle.tree.specs.Stored.{name_branch}
 use Rattle.parser.proofs.Told.{parsed_told}
-use borrow.Author.Rules.{rules}
 use Rattle.declarations.proofs.rules.names_list.Goals as goal
 
 pub loop-u-init : goal.loop-u-init

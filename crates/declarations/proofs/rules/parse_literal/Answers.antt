@@ -7,7 +7,6 @@ use Rattle.parser.proofs.Openings.{listed, listed_not}
 use Rattle.declarations.proofs.RuleReads.{literal-next, literal-props, literal-on, literal-given}
 use Rattle.tokens.proofs.Told.{arrived_told}
 use Rattle.parser.proofs.Told.{listed_told}
-use borrow.Author.Rules.{rules}
 use Rattle.declarations.proofs.rules.parse_literal.Goals as goal
 
 pub returns-in_default : goal.returns-in_default

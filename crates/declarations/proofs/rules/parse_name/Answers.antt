@@ -1,10 +1,9 @@
 -- `rules::parse_name` meets its contract.
 -- Assumes nothing.
 use native.Mathlib.Omega.{arith}
-use Rattle.parser.proofs.Ready.{name-got, put_asks, part-short, taken_not, identifier_not}
+use Rattle.parser.proofs.Ready.{name-got, put_asks, part-short, identifier_not}
 use Rattle.parser.proofs.HeadRules.{name-given}
 use Rattle.tokens.proofs.Told.{taken_told}
-use borrow.Author.Rules.{rules}
 use Rattle.declarations.proofs.rules.parse_name.Goals as goal
 
 pub returns-in_default : goal.returns-in_default

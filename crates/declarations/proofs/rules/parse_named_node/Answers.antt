@@ -2,12 +2,11 @@
 -- Assumes nothing.
 use native.Mathlib.Omega.{arith}
 use Rattle.tree.specs.Stored.{prop_branch}
-use Rattle.parser.proofs.Ready.{ready_step, ready_on, name-got, put_asks, part-short, lists-small, taken_at, identifier_at, taken_not, identifier_not}
+use Rattle.parser.proofs.Ready.{ready_step, ready_on, name-got, put_asks, part-short, lists-small, identifier_at, identifier_not}
 use Rattle.parser.proofs.Openings.{listed, listed_not}
 use Rattle.declarations.proofs.RuleReads.{node-name, node-props, node-given}
 use Rattle.tokens.proofs.Told.{taken_told}
 use Rattle.parser.proofs.Told.{listed_told}
-use borrow.Author.Rules.{rules}
 use Rattle.declarations.proofs.rules.parse_named_node.Goals as goal
 
 pub returns-in_default : goal.returns-in_default

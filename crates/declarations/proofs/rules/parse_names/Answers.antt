@@ -9,7 +9,6 @@ use Rattle.parser.proofs.Ready.{ready_step}
 use Rattle.parser.proofs.Took.{expect_not}
 use Rattle.declarations.proofs.RuleReads.{block_refused, block_list}
 use Rattle.tokens.proofs.Told.{arrived_told}
-use borrow.Author.Rules.{rules}
 use Rattle.declarations.proofs.rules.parse_names.Goals as goal
 
 pub returns-in_default : goal.returns-in_default

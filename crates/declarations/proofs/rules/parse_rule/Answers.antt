@@ -1,13 +1,12 @@
 -- `rules::parse_rule` meets its contract.
 -- Assumes nothing.
 use native.Mathlib.Omega.{arith}
-use Rattle.parser.proofs.Ready.{ready_step, ready_on, name-got, put_asks, part-short, taken_at, identifier_at, taken_not, identifier_not}
+use Rattle.parser.proofs.Ready.{ready_step, ready_on, name-got, put_asks, part-short, identifier_at, identifier_not}
 use Rattle.parser.proofs.Took.{head_read, head_not}
 use Rattle.parser.proofs.InnerLaws.{braced-read, braced_not}
 use Rattle.declarations.proofs.RuleReads.{rule-name, rule-head, rule-body, head_small, rule-given}
 use Rattle.tokens.proofs.Told.{taken_told}
 use Rattle.parser.proofs.Told.{expressed_told, headed_told}
-use borrow.Author.Rules.{rules}
 use Rattle.declarations.proofs.rules.parse_rule.Goals as goal
 
 pub returns-in_default : goal.returns-in_default

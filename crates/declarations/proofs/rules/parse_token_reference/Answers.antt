@@ -3,7 +3,6 @@
 use Rattle.parser.proofs.Took.{expressed, expressed_not}
 use Rattle.declarations.proofs.RuleReads.{reference-refused, reference-name, reference-literal, reference-repeat, reference-blank, reference-other}
 use Rattle.parser.proofs.Told.{expressed_told}
-use borrow.Author.Rules.{rules}
 use Rattle.declarations.proofs.rules.parse_token_reference.Goals as goal
 
 pub returns-in_default : goal.returns-in_default

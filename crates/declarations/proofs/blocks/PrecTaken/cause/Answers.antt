@@ -1,6 +1,5 @@
 -- `PrecTaken::cause` meets its contract.
 -- Assumes nothing.
-use borrow.Author.Rules.{rules}
 use mathlib.Core.Path.{sym, ap}
 use Rattle.declarations.specs.Promise.{prec_taken_cause}
 use Rattle.declarations.proofs.blocks.PrecTaken.cause.Goals as goal

@@ -1,6 +1,5 @@
 -- `PrecTaken::place` meets its contract.
 -- Assumes nothing.
-use borrow.Author.Rules.{rules}
 use mathlib.Core.Path.{sym, ap}
 use Rattle.declarations.specs.Promise.{prec_taken_place}
 use Rattle.declarations.proofs.blocks.PrecTaken.place.Goals as goal
