@@ -19,9 +19,7 @@ use Rattle.tree.specs.declared.PrecKind.{PrecKind as DeclaredPrec}
 use Rattle.tree.specs.declared.PrecKind.TheVariants as PrecKinds
 use Rattle.tree.specs.declared.Record as declared
 use Rattle.tree.specs.declared.Root.{Root}
-use Rattle.tree.specs.declared.Root.TheVariants as Root
 use Rattle.tree.specs.declared.Comparison.{Comparison}
-use Rattle.tree.specs.declared.Comparison.TheVariants as Comparison
 
 -- ------------------------------------------------------------------ kinds
 

@@ -2,6 +2,7 @@
 // Whether words and texts are one tree, and whether two trees are structurally equal. Nothing is copied, there is no stack and no
 // recursion: a branch is passed by counting back over its records.
 #![tactic(auto)]
+
 ghost use Rattle.std.specs.Prelude.{◌≡◌, ◌+◌, ◌-◌, ◌*◌, ◌≤◌, ◌<◌, [], ◌∷◌, reverse, length, take, eqb, ◌||◌};
 ghost use Rattle.basics.specs.Basics.{among, same, within};
 ghost use Rattle.characters.specs.Promise.{written, flat};

@@ -1,5 +1,4 @@
 -- `tree::begins` meets its contract. Assumes nothing.
-use borrow.Author.Rules.{rules}
 use mathlib.Core.Path.{◌∙◌}
 use Rattle.tree.proofs.Matching.{none_begin, some_begin}
 use Rattle.tree.proofs.begins.Goals as goal

@@ -1,5 +1,4 @@
 -- `tree::char_class_ranges` meets its contract: each arm is told its case. Assumes nothing.
-use borrow.Author.Rules.{rules}
 use Rattle.characters.specs.Promise.{flat}
 use Rattle.tree.specs.CharClasses.{ranges}
 use Rattle.tree.proofs.char_class_ranges.Goals as goal

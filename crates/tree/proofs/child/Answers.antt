@@ -1,5 +1,4 @@
 -- `tree::child` meets its contract. Assumes nothing.
-use borrow.Author.Rules.{rules}
 use Rattle.tree.proofs.child.Goals as goal
 
 pub returns : goal.returns

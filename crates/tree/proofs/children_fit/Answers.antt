@@ -1,13 +1,8 @@
 -- `tree::children_fit` meets its contract. The loop's invariant: the groups that are left match the children that are left just where all
 -- groups match all children. Assumes nothing.
-use Prim.Native.Nat.{◌+◌, ◌-◌, ◌≤◌}
-use mathlib.Core.Path.{◌≡◌, sym, ◌∙◌}
+use mathlib.Core.Path.{sym, ◌∙◌}
 use native.Mathlib.Omega.{arith}
-use borrow.Author.Tests.{not-true, not-false}
-use lib.ListN.{length}
-use Rattle.tree.specs.OneTree.{children_fit}
-use Rattle.tree.specs.Promise.{count_of, kinds_back}
-use Rattle.tree.proofs.Matching.{begun, left_over, many-child, many-over, one-child, one_missing, most-child, most-over, over-end, over-all}
+use Rattle.tree.proofs.Matching.{begun, many-child, many-over, one-child, one_missing, most-child, most-over, over-end, over-all}
 use Rattle.tree.proofs.children_fit.Goals as goal
 
 pub loop-g-init : goal.loop-g-init
@@ -51,10 +46,10 @@ loop-g-smaller-then-group-lt-AT_MOST_ONE c = omega (arith, begun _ _ _ _ (sym c.
 
 pub loop-g-preserved-then-group-lt-AT_MOST_ONE : goal.loop-g-preserved-then-group-lt-AT_MOST_ONE
 loop-g-preserved-then-group-lt-AT_MOST_ONE c = (
-      c.sibling-j-then-group-lt-AT_MOST_ONE.ensures.0,
-      c.loop-g.invariant.1,
-      sym (one-child c.groups-groups.result _ c.loop-g.g _ _ _ (omega arith) c.if-group-eq0.false c.if-group-lt-ONE.false c.if-group-lt-AT_MOST_ONE.true (sym c.begins-then-group-lt-AT_MOST_ONE.ensures ∙ c.if-not-begins.false) c.sibling-j-then-group-lt-AT_MOST_ONE.ensures.1) ∙ c.loop-g.invariant.2,
-    )
+  c.sibling-j-then-group-lt-AT_MOST_ONE.ensures.0,
+  c.loop-g.invariant.1,
+  sym (one-child c.groups-groups.result _ c.loop-g.g _ _ _ (omega arith) c.if-group-eq0.false c.if-group-lt-ONE.false c.if-group-lt-AT_MOST_ONE.true (sym c.begins-then-group-lt-AT_MOST_ONE.ensures ∙ c.if-not-begins.false) c.sibling-j-then-group-lt-AT_MOST_ONE.ensures.1) ∙ c.loop-g.invariant.2,
+)
 
 pub begins-requires-else-group-lt-AT_MOST_ONE : goal.begins-requires-else-group-lt-AT_MOST_ONE
 begins-requires-else-group-lt-AT_MOST_ONE c = c.loop-g.invariant.0
@@ -70,10 +65,10 @@ loop-g-smaller-then-begins-2 c = omega (arith, begun _ _ _ _ (sym c.begins-else-
 
 pub loop-g-preserved-then-begins-2 : goal.loop-g-preserved-then-begins-2
 loop-g-preserved-then-begins-2 c = (
-      c.sibling-j-then-begins-2.ensures.0,
-      c.loop-g.invariant.1,
-      sym (most-child c.groups-groups.result _ c.loop-g.g _ _ _ (omega arith) c.if-group-eq0.false c.if-group-lt-ONE.false c.if-group-lt-AT_MOST_ONE.false (sym c.begins-else-group-lt-AT_MOST_ONE.ensures ∙ c.if-begins-2.true) c.sibling-j-then-begins-2.ensures.1) ∙ c.loop-g.invariant.2,
-    )
+  c.sibling-j-then-begins-2.ensures.0,
+  c.loop-g.invariant.1,
+  sym (most-child c.groups-groups.result _ c.loop-g.g _ _ _ (omega arith) c.if-group-eq0.false c.if-group-lt-ONE.false c.if-group-lt-AT_MOST_ONE.false (sym c.begins-else-group-lt-AT_MOST_ONE.ensures ∙ c.if-begins-2.true) c.sibling-j-then-begins-2.ensures.1) ∙ c.loop-g.invariant.2,
+)
 
 pub loop-g-preserved : goal.loop-g-preserved
 loop-g-preserved c = (c.loop-g.invariant.0, c.loop-g.invariant.1, sym (most-over c.groups-groups.result _ c.loop-g.g 0 _ _ (omega arith) c.if-group-eq0.false c.if-group-lt-ONE.false c.if-group-lt-AT_MOST_ONE.false (sym c.begins-else-group-lt-AT_MOST_ONE.ensures ∙ c.if-begins-2.false)) ∙ c.loop-g.invariant.2)

@@ -1,5 +1,4 @@
 -- `tree::class_value` meets its contract: each arm is told its case. Assumes nothing.
-use borrow.Author.Rules.{rules}
 use Rattle.tree.proofs.class_value.Goals as goal
 
 pub returns-in-AsciiLetter : goal.returns-in-AsciiLetter

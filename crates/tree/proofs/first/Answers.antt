@@ -1,8 +1,6 @@
 -- `tree::first` meets its contract. The loop's invariant: what is left to count back gives the same record. Assumes nothing.
-use Prim.Native.Nat.{◌≤◌}
 use mathlib.Core.Path.{◌≡◌, refl, sym, ◌∙◌}
 use native.Mathlib.Omega.{arith}
-use Rattle.tree.specs.Promise.{first_element}
 use Rattle.tree.proofs.Back.{first-none, first-few, first_step}
 use Rattle.tree.proofs.first.Goals as goal
 

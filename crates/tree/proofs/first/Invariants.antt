@@ -1,8 +1,6 @@
 use Prim.Native.Nat.{◌≤◌}
-use mathlib.Core.Path.{◌≡◌, refl, sym, ◌∙◌}
-use native.Mathlib.Omega.{arith}
+use mathlib.Core.Path.{◌≡◌}
 use Rattle.tree.specs.Promise.{first_element}
-use Rattle.tree.proofs.Back.{first-none, first-few, first_step}
 use Rattle.tree.proofs.first.Given as goal
 
 abbrev pub invariant-loop-need : goal.invariant-loop-need

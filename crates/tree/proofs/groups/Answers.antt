@@ -1,6 +1,5 @@
 -- `tree::groups` meets its contract: at each kind the definition computes, and the rest has no children. Assumes nothing.
 use borrow.Author.Tests.{ne_eqb}
-use borrow.Author.Rules.{rules}
 use mathlib.Core.Path.{refl}
 use Rattle.tree.proofs.Numbers.{neither}
 use Rattle.tree.specs.OneTree.{groups_of}

@@ -1,6 +1,5 @@
 -- `tree::is_among` meets its contract. Assumes nothing.
 use borrow.Author.Tests.{ne_eqb}
-use borrow.Author.Rules.{rules}
 use mathlib.Core.Bool.{or-false}
 use Rattle.tree.proofs.is_among.Goals as goal
 

@@ -1,5 +1,4 @@
 -- `tree::is_root` meets its contract. Assumes nothing.
-use borrow.Author.Rules.{rules}
 use Rattle.tree.proofs.is_root.Goals as goal
 
 pub returns-in-Expression : goal.returns-in-Expression

@@ -1,6 +1,5 @@
 -- `tree::is_slot` meets its contract. Assumes nothing.
 use borrow.Author.Tests.{ne_eqb}
-use borrow.Author.Rules.{rules}
 use Rattle.tree.proofs.is_slot.Goals as goal
 
 pub returns-in-41 : goal.returns-in-41

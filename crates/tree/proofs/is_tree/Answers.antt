@@ -1,12 +1,10 @@
 -- `tree::is_tree` meets its contract. The loop's invariant: the branches of the records so far stand in the words, `depth` of them, and the
 -- records that are left give the tree from there. Assumes nothing.
-use Prim.Native.Nat.{◌+◌, ◌-◌, ◌≤◌}
+use Prim.Native.Nat.{◌+◌, ◌-◌}
 use mathlib.Core.Path.{ap, sym, ◌∙◌}
 use native.Mathlib.Omega.{arith}
-use borrow.Author.Tests.{not-true, not-false}
-use lib.ListN.{length}
 use Rattle.tree.specs.Promise.{is_some}
-use Rattle.tree.proofs.Trees.{Grown, grown_of, grown-first, grown-few, build_broken, no-tree, too_few, misfit, grow, record_inside, rooted-last, more_left}
+use Rattle.tree.proofs.Trees.{grown-first, grown-few, build_broken, no-tree, too_few, misfit, grow, record_inside, rooted-last, more_left}
 use Rattle.tree.proofs.is_tree.Goals as goal
 
 pub overflow_mul-n : goal.overflow_mul-n
@@ -45,11 +43,11 @@ overflow_add-i c = omega (arith, c.count-n.ensures)
 
 pub loop-i-preserved : goal.loop-i-preserved
 loop-i-preserved c = (
-      omega arith,
-      rw (c.wide-at.ensures, c.word-in-loop-i.ensures) (record_inside _ _ _ _ (sym c.record_fits.ensures ∙ c.if-not-record_fits.false) c.loop-i.invariant.1).1,
-      rw (c.wide-at.ensures, c.word-in-loop-i.ensures, c.wide-children.ensures, c.word.ensures)
-          (grow _ _ _ _ (c.count-n.result - c.loop-i.i) (c.count-n.result - (c.loop-i.i + 1)) (omega arith) c.loop-i.invariant.2 (rw (c.wide-children.ensures, c.word.ensures) at c.if-depth-children.false) (sym c.record_fits.ensures ∙ c.if-not-record_fits.false) c.loop-i.invariant.1),
-    )
+  omega arith,
+  rw (c.wide-at.ensures, c.word-in-loop-i.ensures) (record_inside _ _ _ _ (sym c.record_fits.ensures ∙ c.if-not-record_fits.false) c.loop-i.invariant.1).1,
+  rw (c.wide-at.ensures, c.word-in-loop-i.ensures, c.wide-children.ensures, c.word.ensures)
+      (grow _ _ _ _ (c.count-n.result - c.loop-i.i) (c.count-n.result - (c.loop-i.i + 1)) (omega arith) c.loop-i.invariant.2 (rw (c.wide-children.ensures, c.word.ensures) at c.if-depth-children.false) (sym c.record_fits.ensures ∙ c.if-not-record_fits.false) c.loop-i.invariant.1),
+)
 
 pub returns-then-depth-ne1 : goal.returns-then-depth-ne1
 returns-then-depth-ne1 c = no-tree _ _ _ c.count-n.result (sym c.if-n-records.false) (more_left _ _ (c.count-n.result - c.loop-i.i) (omega arith) c.loop-i.invariant.2 c.if-depth-ne1.true)

@@ -1,5 +1,4 @@
 -- `tree::marker_number` meets its contract: each arm is told its case. Assumes nothing.
-use borrow.Author.Rules.{rules}
 use Rattle.tree.proofs.marker_number.Goals as goal
 
 pub returns-in-Ambiguity : goal.returns-in-Ambiguity

@@ -1,5 +1,4 @@
 -- `tree::prec_value` meets its contract: each arm is told its case. Assumes nothing.
-use borrow.Author.Rules.{rules}
 use Rattle.tree.proofs.prec_value.Goals as goal
 
 pub returns-in-Missing : goal.returns-in-Missing

@@ -4,7 +4,6 @@ use native.Mathlib.Omega.{arith}
 use lib.ListN.{length-set}
 use Rattle.characters.proofs.Written.{written_not}
 use Rattle.tree.proofs.Stores.{stored}
-use borrow.Author.Rules.{rules}
 use Rattle.tree.proofs.put.Goals as goal
 
 pub returns-then-records-at : goal.returns-then-records-at

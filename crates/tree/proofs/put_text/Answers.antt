@@ -1,10 +1,9 @@
 -- `tree::put_text` meets its contract. The loop's invariant: the first i bytes are copied. Assumes nothing.
-use Prim.Native.Nat.{◌+◌, ◌-◌, ◌≤◌}
-use mathlib.Core.Path.{◌≡◌, refl, ap, sym, ◌∙◌}
+use mathlib.Core.Path.{refl, ap, sym, ◌∙◌}
 use native.Mathlib.Omega.{arith}
 use native.Mathlib.Numerals.{add-one}
 use lib.ListN.{length}
-use lib.Seq.{paste, paste-zero, paste-suc, length-paste}
+use lib.Seq.{paste-zero, paste-suc, length-paste}
 use Rattle.characters.proofs.Written.{written_not}
 use Rattle.tree.proofs.Stores.{pasted}
 use Rattle.tree.proofs.put_text.Goals as goal

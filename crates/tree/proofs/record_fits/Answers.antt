@@ -1,7 +1,4 @@
 -- `tree::record_fits` meets its contract: the tests of the definition, that of the text before that of the children. Assumes nothing.
-use borrow.Author.Rules.{rules}
-use borrow.Author.Tests.{not-true, not-false}
-use native.Mathlib.Omega.{arith}
 use mathlib.Core.Bool.{and-true, and-false}
 use mathlib.Core.Path.{◌∙◌, sym}
 use Rattle.tree.specs.OneTree.{record_fits}

@@ -1,5 +1,4 @@
 -- `tree::repeat_value` meets its contract: each arm is told its case. Assumes nothing.
-use borrow.Author.Rules.{rules}
 use Rattle.tree.proofs.repeat_value.Goals as goal
 
 pub returns-in-Optional : goal.returns-in-Optional

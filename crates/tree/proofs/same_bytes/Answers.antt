@@ -1,5 +1,4 @@
 -- `tree::same_bytes` meets its contract. Assumes nothing.
-use borrow.Author.Rules.{rules}
 use Rattle.basics.proofs.Same.{same_by}
 use Rattle.tree.proofs.same_bytes.Goals as goal
 

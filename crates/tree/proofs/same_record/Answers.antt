@@ -1,6 +1,5 @@
 -- `tree::same_record` meets its contract: the tests of the definition, that of the texts last. Assumes nothing.
-use borrow.Author.Rules.{rules}
-use borrow.Author.Tests.{eq-eqb, ne_eqb, not-true, not-false}
+use borrow.Author.Tests.{eq-eqb, ne_eqb}
 use mathlib.Core.Bool.{and-true, and-false}
 use mathlib.Core.Path.{sym, ◌∙◌}
 use Rattle.tree.specs.Promise.{same_node}

@@ -1,6 +1,5 @@
 -- `tree::slots` meets its contract: by the value the definition computes. Assumes nothing.
 use borrow.Author.Tests.{ne_eqb}
-use borrow.Author.Rules.{rules}
 use Rattle.tree.specs.OneTree.{groups_of}
 use Rattle.tree.specs.Promise.{groups_in}
 use Rattle.tree.proofs.slots.Goals as goal

@@ -1,5 +1,4 @@
 -- `tree::specialize_value` meets its contract: each arm is told its case. Assumes nothing.
-use borrow.Author.Rules.{rules}
 use Rattle.tree.proofs.specialize_value.Goals as goal
 
 pub returns-in-Extend : goal.returns-in-Extend

@@ -1,13 +1,12 @@
 -- `tree::structurally_eq` meets its contract. The loop's invariant: the records that are left are the same just where all are.
 -- Assumes nothing.
-use Prim.Native.Nat.{◌+◌, ◌-◌, ◌≤◌}
-use mathlib.Core.Path.{◌≡◌, ap, sym, ◌∙◌}
+use Prim.Native.Nat.{◌+◌, ◌-◌}
+use mathlib.Core.Path.{ap, sym, ◌∙◌}
 use native.Mathlib.Omega.{arith}
 use native.Mathlib.Nat.{sub-zero}
-use borrow.Author.Tests.{not-true, not-false}
 use Rattle.tree.specs.OneTree.{is_expression}
 use Rattle.tree.specs.Promise.{comparison_of}
-use Rattle.tree.proofs.Equal.{same_from, from_yes, from_no, from-none, tree_of, tree_not, inside, other_not, unequal, by-records}
+use Rattle.tree.proofs.Equal.{from_yes, from_no, from-none, tree_of, tree_not, inside, other_not, unequal, by-records}
 use Rattle.tree.proofs.structurally_eq.Goals as goal
 
 pub returns-then-not-is_tree : goal.returns-then-not-is_tree

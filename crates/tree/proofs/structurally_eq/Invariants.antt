@@ -1,11 +1,6 @@
-use Prim.Native.Nat.{◌+◌, ◌-◌, ◌≤◌}
-use mathlib.Core.Path.{◌≡◌, ap, sym, ◌∙◌}
-use native.Mathlib.Omega.{arith}
-use native.Mathlib.Nat.{sub-zero}
-use borrow.Author.Tests.{not-true, not-false}
-use Rattle.tree.specs.OneTree.{is_expression}
-use Rattle.tree.specs.Promise.{comparison_of}
-use Rattle.tree.proofs.Equal.{same_from, from_yes, from_no, from-none, tree_of, tree_not, inside, other_not, unequal, by-records}
+use Prim.Native.Nat.{◌-◌, ◌≤◌}
+use mathlib.Core.Path.{◌≡◌}
+use Rattle.tree.proofs.Equal.{same_from}
 use Rattle.tree.proofs.structurally_eq.Given as goal
 
 abbrev pub invariant-loop-i : goal.invariant-loop-i

@@ -1,5 +1,4 @@
 -- `tree::text` meets its contract. Assumes nothing.
-use borrow.Author.Rules.{rules}
 use Rattle.tree.proofs.text.Goals as goal
 
 pub returns : goal.returns

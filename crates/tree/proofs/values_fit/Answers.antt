@@ -1,6 +1,5 @@
 -- `tree::values_fit` meets its contract: at each kind the definition computes. Assumes nothing.
 use borrow.Author.Tests.{ne_eqb, lt-ltb, le-ltb}
-use borrow.Author.Rules.{rules}
 use mathlib.Core.Bool.{and-true, and-false}
 use Rattle.tree.specs.OneTree.{values_fit}
 use Rattle.tree.proofs.values_fit.Goals as goal
