@@ -1,5 +1,4 @@
 -- `answers::put` meets its contract. Assumes nothing.
-use borrow.Author.Rules.{rules}
 use native.Mathlib.Omega.{arith}
 use lib.ListN.{length-set}
 use Rattle.answers.proofs.Laid.{laid_in, laid_out}

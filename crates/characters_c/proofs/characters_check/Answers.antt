@@ -1,6 +1,5 @@
 -- `characters_c::characters_check` meets its contract. Assumes nothing.
 use mathlib.Core.Path.{sym, ◌∙◌}
-use borrow.Author.Rules.{rules}
 use Rattle.characters_c.proofs.characters_check.Goals as goal
 
 pub returns-in_default : goal.returns-in_default

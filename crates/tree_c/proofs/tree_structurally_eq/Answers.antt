@@ -1,5 +1,4 @@
 -- `tree_c::tree_structurally_eq` meets its contract: each arm is told its case. Assumes nothing.
-use borrow.Author.Rules.{rules}
 use mathlib.Core.Path.{ap, sym, ◌∙◌}
 use Rattle.tree_c.specs.Answers.{comparison_number}
 use Rattle.tree_c.proofs.tree_structurally_eq.Goals as goal
