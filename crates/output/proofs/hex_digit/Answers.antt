@@ -1,5 +1,4 @@
 -- `output::hex_digit` meets its contract. Assumes nothing.
-use borrow.Author.Rules.{rules}
 use mathlib.Core.Path.{sym}
 use Rattle.spelling.proofs.Back.{digit_low, digit-high}
 use Rattle.output.proofs.hex_digit.Goals as goal

@@ -1,5 +1,4 @@
 -- `output::put_byte` meets its contract. Assumes nothing.
-use borrow.Author.Rules.{rules}
 use Rattle.output.proofs.Writes.{adds_in, adds-out}
 use Rattle.output.proofs.put_byte.Goals as goal
 

@@ -1,10 +1,6 @@
 -- `output::put_bytes` meets its contract. The invariant: the first i bytes of the text are added. Assumes nothing.
-use borrow.Author.Rules.{rules}
-use Prim.Native.Nat.{◌+◌, ◌-◌, ◌≤◌}
 use mathlib.Core.Path.{◌≡◌}
 use native.Mathlib.Omega.{arith}
-use lib.ListN.{take, drop}
-use Rattle.output.specs.Promise.{Adds}
 use Rattle.output.proofs.Writes.{adds_none, adds_then, take_next}
 use Rattle.output.proofs.put_bytes.Goals as goal
 

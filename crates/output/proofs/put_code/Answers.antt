@@ -3,7 +3,6 @@ use native.Mathlib.Omega.{arith}
 use mathlib.Core.List.{[]}
 use Rattle.output.proofs.Digits.{code-parts, hex-small}
 use Rattle.output.proofs.Writes.{adds_then}
-use borrow.Author.Rules.{rules}
 use Rattle.output.proofs.put_code.Goals as goal
 
 pub put_byte-requires : goal.put_byte-requires

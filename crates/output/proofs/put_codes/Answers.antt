@@ -1,6 +1,5 @@
 -- `output::put_codes` meets its contract. Assumes nothing.
 use Rattle.output.proofs.Writes.{adds-first}
-use borrow.Author.Rules.{rules}
 use Rattle.output.proofs.put_codes.Goals as goal
 
 pub returns : goal.returns

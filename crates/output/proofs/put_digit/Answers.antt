@@ -1,7 +1,6 @@
 -- `output::put_digit` meets its contract. Assumes nothing.
 use Rattle.output.proofs.Digits.{digit_yes, digit_no}
 use Rattle.output.proofs.Writes.{adds_none}
-use borrow.Author.Rules.{rules}
 use Rattle.output.proofs.put_digit.Goals as goal
 
 pub returns-then-unit-code : goal.returns-then-unit-code

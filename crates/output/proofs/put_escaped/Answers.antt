@@ -3,7 +3,6 @@ use mathlib.Core.Path.{sym, ◌∙◌}
 use Rattle.spelling.specs.Spelling.{quoted}
 use Rattle.spelling.proofs.Back.{quoted_yes, quoted_no}
 use Rattle.output.proofs.Writes.{adds_then}
-use borrow.Author.Rules.{rules}
 use Rattle.output.proofs.put_escaped.Goals as goal
 
 pub returns-then-is_special : goal.returns-then-is_special

@@ -2,7 +2,6 @@
 use native.Mathlib.Omega.{arith}
 use Rattle.output.proofs.Digits.{hex-digits, digit-small}
 use Rattle.output.proofs.Writes.{adds_then}
-use borrow.Author.Rules.{rules}
 use Rattle.output.proofs.put_hex.Goals as goal
 
 pub put_digit-b-requires : goal.put_digit-b-requires

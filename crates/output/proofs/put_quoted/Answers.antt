@@ -1,5 +1,4 @@
 -- `output::put_quoted` meets its contract. Assumes nothing.
-use borrow.Author.Rules.{rules}
 use lib.Seq.{take-length}
 use Rattle.output.proofs.Writes.{adds-first}
 use Rattle.output.proofs.put_quoted.Goals as goal

@@ -6,7 +6,6 @@ use mathlib.Core.Path.{◌≡◌}
 use Rattle.spelling.specs.Spelling.{span_text}
 use Rattle.output.proofs.Digits.{code-small}
 use Rattle.output.proofs.Writes.{adds_then}
-use borrow.Author.Rules.{rules}
 use Rattle.output.proofs.put_span.Goals as goal
 
 pub overflow_add-wide : goal.overflow_add-wide

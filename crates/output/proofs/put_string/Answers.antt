@@ -1,12 +1,10 @@
 -- `output::put_string` meets its contract. The invariant: the first i bytes of the text are added behind the quote. Assumes nothing.
-use borrow.Author.Rules.{rules}
-use Prim.Native.Nat.{◌+◌, ◌-◌, ◌*◌, ◌≤◌}
+use Prim.Native.Nat.{◌+◌}
 use mathlib.Core.Path.{◌≡◌, ◌∙◌}
 use mathlib.Core.List.{[], ◌∷◌}
 use native.Mathlib.Omega.{arith}
-use lib.ListN.{take, drop, get_or}
+use lib.ListN.{get_or}
 use Rattle.spelling.specs.Spelling.{quoted}
-use Rattle.output.specs.Promise.{Adds}
 use Rattle.output.proofs.Writes.{adds_none, adds_then}
 use Rattle.spelling.proofs.Bytes.{quoted-small, string-parts}
 use Rattle.output.proofs.Writes.{quoted-next}

@@ -1,14 +1,7 @@
-use borrow.Author.Rules.{rules}
 use Prim.Native.Nat.{◌+◌, ◌-◌, ◌*◌, ◌≤◌}
-use mathlib.Core.Path.{◌≡◌, ◌∙◌}
-use mathlib.Core.List.{[], ◌∷◌}
-use native.Mathlib.Omega.{arith}
-use lib.ListN.{take, drop, get_or}
+use lib.ListN.{take, drop}
 use Rattle.spelling.specs.Spelling.{quoted}
 use Rattle.output.specs.Promise.{Adds}
-use Rattle.output.proofs.Writes.{adds_none, adds_then}
-use Rattle.spelling.proofs.Bytes.{quoted-small, string-parts}
-use Rattle.output.proofs.Writes.{quoted-next}
 use Rattle.output.proofs.put_string.Given as goal
 
 abbrev pub invariant-loop-i : goal.invariant-loop-i
