@@ -7,6 +7,7 @@
 // One walk serves all kinds of records: what stands before, between and after them is looked up by their kinds (specs/Walk.antt). Every
 // token has its space in front, but the first of a line.
 #![tactic(auto)]
+
 ghost use Rattle.std.specs.Prelude.{◌≡◌, ◌≤◌, ◌<◌};
 ghost use Rattle.lexer.specs.Tokens.{Kind};
 ghost use Rattle.spelling.specs.Spelling.{quoted, spell};

@@ -1,6 +1,5 @@
 -- `writer::class` meets its contract. Assumes nothing.
 use borrow.Author.Tests.{ne_eqb}
-use borrow.Author.Rules.{rules}
 use mathlib.Core.Path.{sym, ◌∙◌}
 use Rattle.writer.specs.Walk.{class}
 use Rattle.writer.proofs.class.Goals as goal

@@ -1,7 +1,6 @@
 -- `writer::last_class` meets its contract. Assumes nothing.
 use borrow.Author.Tests.{ne_eqb}
 use Rattle.writer.specs.Walk.{last_at}
-use borrow.Author.Rules.{rules}
 use Rattle.writer.proofs.last_class.Goals as goal
 
 pub returns-then-word-eq0 : goal.returns-then-word-eq0

@@ -5,7 +5,6 @@ use Rattle.output.proofs.Writes.{then}
 use Rattle.writer.proofs.Small.{bounded, closing-small}
 use Rattle.writer.proofs.Runs.{run_small}
 use Rattle.writer.proofs.Grammars.{some-records, lent, root_run, root_says}
-use borrow.Author.Rules.{rules}
 use Rattle.writer.proofs.normal_text.Goals as goal
 
 pub overflow_sub-root : goal.overflow_sub-root

@@ -1,6 +1,5 @@
 -- `writer::put_after` meets its contract: an arm for each number of the table, and the rest. Assumes nothing.
 use borrow.Author.Tests.{ne_eqb}
-use borrow.Author.Rules.{rules}
 use Rattle.writer.specs.Walk.{after}
 use Rattle.writer.proofs.put_after.Goals as goal
 

@@ -3,7 +3,6 @@ use native.Mathlib.Omega.{arith}
 use Rattle.writer.specs.Walk.{back}
 use Rattle.output.proofs.Writes.{then}
 use Rattle.writer.proofs.Small.{bounded, close-small, ends-small, tail-small}
-use borrow.Author.Rules.{rules}
 use Rattle.writer.proofs.put_back.Goals as goal
 
 pub overflow_add-n : goal.overflow_add-n

@@ -1,7 +1,6 @@
 -- `writer::put_block_end` meets its contract. Assumes nothing.
 use borrow.Author.Tests.{ne_eqb}
 use Rattle.writer.specs.Walk.{block_end}
-use borrow.Author.Rules.{rules}
 use Rattle.writer.proofs.put_block_end.Goals as goal
 
 pub returns-then-last-eq17 : goal.returns-then-last-eq17

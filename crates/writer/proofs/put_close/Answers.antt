@@ -1,6 +1,5 @@
 -- `writer::put_close` meets its contract: an arm for each number of the table, and the rest. Assumes nothing.
 use borrow.Author.Tests.{ne_eqb}
-use borrow.Author.Rules.{rules}
 use Rattle.writer.specs.Walk.{close}
 use Rattle.writer.proofs.put_close.Goals as goal
 

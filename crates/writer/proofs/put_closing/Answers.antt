@@ -3,7 +3,6 @@ use native.Mathlib.Omega.{arith}
 use Rattle.writer.specs.Walk.{closing}
 use Rattle.output.proofs.Writes.{then}
 use Rattle.writer.proofs.Small.{bounded, dialect_small, detect_small}
-use borrow.Author.Rules.{rules}
 use Rattle.writer.proofs.put_closing.Goals as goal
 
 pub overflow_add-result : goal.overflow_add-result

@@ -2,7 +2,6 @@
 use mathlib.Core.Path.{sym, ◌∙◌}
 use Rattle.writer.specs.Walk.{ends}
 use Rattle.output.proofs.Writes.{wrote_none}
-use borrow.Author.Rules.{rules}
 use Rattle.writer.proofs.put_ends.Goals as goal
 
 pub returns-then-is_bracketed : goal.returns-then-is_bracketed

@@ -1,5 +1,4 @@
 -- `writer::put_expression_open` meets its contract: an arm for each number of the table, and the rest. Assumes nothing.
-use borrow.Author.Rules.{rules}
 use Rattle.writer.specs.Walk.{text_for, expression_opens}
 use Rattle.writer.proofs.Tables.{no_entry}
 use Rattle.writer.proofs.put_expression_open.Goals as goal

@@ -3,7 +3,6 @@ use native.Mathlib.Omega.{arith}
 use Rattle.writer.specs.Walk.{front}
 use Rattle.output.proofs.Writes.{then}
 use Rattle.writer.proofs.Small.{bounded, row_small, link-small, lead-small, own-small}
-use borrow.Author.Rules.{rules}
 use Rattle.writer.proofs.put_front.Goals as goal
 
 pub put_link-n-requires : goal.put_link-n-requires

@@ -3,7 +3,6 @@ use native.Mathlib.Omega.{arith}
 use Rattle.writer.specs.Walk.{link}
 use Rattle.output.proofs.Writes.{then}
 use Rattle.writer.proofs.Small.{bounded, row_small, between-small, source-small}
-use borrow.Author.Rules.{rules}
 use Rattle.writer.proofs.put_link.Goals as goal
 
 pub put_source-requires : goal.put_source-requires

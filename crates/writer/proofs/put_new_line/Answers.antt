@@ -2,7 +2,6 @@
 use borrow.Author.Tests.{ne_eqb}
 use Rattle.writer.specs.Walk.{new_line}
 use Rattle.output.proofs.Writes.{wrote_none}
-use borrow.Author.Rules.{rules}
 use Rattle.writer.proofs.put_new_line.Goals as goal
 
 pub returns-then-left-eq24 : goal.returns-then-left-eq24

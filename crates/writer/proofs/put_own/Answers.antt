@@ -3,7 +3,6 @@ use native.Mathlib.Omega.{arith}
 use Rattle.writer.specs.Walk.{own}
 use Rattle.output.proofs.Writes.{then}
 use Rattle.writer.proofs.Small.{bounded, row_small, before_small, spelled-small, after_small}
-use borrow.Author.Rules.{rules}
 use Rattle.writer.proofs.put_own.Goals as goal
 
 pub put_spelled-n-requires : goal.put_spelled-n-requires

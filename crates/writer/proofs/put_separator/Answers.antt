@@ -4,7 +4,6 @@ use native.Mathlib.Omega.{arith}
 use Rattle.writer.specs.Walk.{shuts, separator}
 use Rattle.output.proofs.Writes.{then}
 use Rattle.writer.proofs.Small.{shuts-small, opens_small}
-use borrow.Author.Rules.{rules}
 use Rattle.writer.proofs.put_separator.Goals as goal
 
 pub returns-then-left-child : goal.returns-then-left-child

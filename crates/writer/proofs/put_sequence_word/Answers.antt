@@ -1,5 +1,4 @@
 -- `writer::put_sequence_word` meets its contract: an arm for each number of the table, and the rest. Assumes nothing.
-use borrow.Author.Rules.{rules}
 use Rattle.writer.specs.Walk.{text_for, sequence_words}
 use Rattle.writer.proofs.Tables.{no_entry}
 use Rattle.writer.proofs.put_sequence_word.Goals as goal

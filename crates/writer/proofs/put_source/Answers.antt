@@ -4,7 +4,6 @@ use native.Mathlib.Omega.{arith}
 use Rattle.writer.specs.Walk.{source}
 use Rattle.output.proofs.Writes.{wrote_none, then}
 use Rattle.writer.proofs.Small.{row_small}
-use borrow.Author.Rules.{rules}
 use Rattle.writer.proofs.put_source.Goals as goal
 
 pub returns-then-child-ne15 : goal.returns-then-child-ne15

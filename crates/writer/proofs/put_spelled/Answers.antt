@@ -2,7 +2,6 @@
 use borrow.Author.Tests.{ne_eqb}
 use Rattle.writer.specs.Walk.{spelled}
 use Rattle.output.proofs.Writes.{wrote_none}
-use borrow.Author.Rules.{rules}
 use Rattle.writer.proofs.put_spelled.Goals as goal
 
 pub returns-in-6 : goal.returns-in-6

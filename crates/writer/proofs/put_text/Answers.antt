@@ -1,5 +1,4 @@
 -- `writer::put_text` meets its contract. Assumes nothing.
-use borrow.Author.Rules.{rules}
 use Rattle.writer.proofs.put_text.Goals as goal
 
 pub text-requires : goal.text-requires

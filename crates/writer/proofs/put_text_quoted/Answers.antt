@@ -1,6 +1,5 @@
 -- `writer::put_text_quoted` meets its contract. Assumes nothing.
 use Rattle.writer.proofs.Small.{row_small}
-use borrow.Author.Rules.{rules}
 use Rattle.writer.proofs.put_text_quoted.Goals as goal
 
 pub text-requires : goal.text-requires
