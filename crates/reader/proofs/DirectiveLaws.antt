@@ -39,7 +39,7 @@ use Rattle.parser.specs.declared.parts.Shape.{Shape}
 use Rattle.tokens.proofs.Stream.{start-of, mark-of}
 use Rattle.parser.proofs.Onward.{placed_in, onward_then, onward-least}
 use Rattle.parser.proofs.Lists.{lays-then, lays-between}
-use Rattle.parser.proofs.Ready.{lays-node, lays_parent, lays-leaf, taken_at, identifier_at, name-got, part-short, flat-length, nodes-branch, nodes-leaf, nodes-first, count-first}
+use Rattle.parser.proofs.Ready.{lays-node, lays_parent, lays-leaf, identifier_at, name-got, part-short, flat-length, nodes-branch, nodes-leaf, nodes-first, count-first}
 use Rattle.parser.proofs.Took.{expect-at, expect_not}
 use Rattle.declarations.specs.Sources.{GotSource}
 use Rattle.declarations.proofs.SourceLaws.{source-few}

@@ -1,12 +1,11 @@
 -- Declarations at top level: what is read of one, given which kinds stand before it, and what is stored of it.
 -- Assumes nothing.
-use Rattle.std.specs.Prelude.{ℕ, ◌+◌, ◌≡◌, Bool, true, false, not, List, [], ◌∷◌, ◌++◌, length}
+use Rattle.std.specs.Prelude.{ℕ, ◌+◌, ◌≡◌, Bool, false, not, List, [], ◌∷◌, ◌++◌, length}
 use Rattle.error.specs.declared.Cause.{Cause}
 use Rattle.error.specs.declared.Cause.TheVariants.{UnexpectedToken}
 use Rattle.basics.specs.Basics.{is_empty, picked}
 use Rattle.error.specs.Promise.{cause_number}
 use Rattle.characters.specs.Utf8.{encode_all}
-use Rattle.lexer.specs.Tokens.{Tokens}
 use Rattle.tree.specs.Records.{Branch, Node, nodes}
 use Rattle.tree.specs.Stored.{declaration_branch, external_prop_branch, source_branch}
 use Rattle.tree.specs.Syntax.{Identifier, TokenDeclaration, LocalTokenDeclaration, Declaration, declaration_kind}

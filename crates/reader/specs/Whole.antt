@@ -1,6 +1,6 @@
 -- The whole of a grammar file: what is noted in a pass over its declarations, and what is stored of them all.
 -- Assumes nothing.
-use Rattle.std.specs.Prelude.{ℕ, ◌+◌, ◌*◌, ◌≤◌, ◌<◌, ◌≡◌, Bool, true, false, not, ◌||◌, List, [], ◌∷◌, ◌++◌, eqb, length, get_or, set}
+use Rattle.std.specs.Prelude.{ℕ, ◌+◌, ◌*◌, ◌≤◌, ◌<◌, ◌≡◌, Bool, true, false, not, ◌||◌, List, [], ◌∷◌, eqb, length, get_or, set}
 use Rattle.error.specs.declared.Cause.{Cause}
 use Rattle.error.specs.declared.Cause.TheVariants.{UnexpectedToken}
 use Rattle.basics.specs.Basics.{if◌then◌else◌, is_empty, over, picked, concat, last_of}
