@@ -22,8 +22,8 @@ def linked(folder, name, crate, stand_in=False):
     if stand_in:
         command += ["--cfg", "stand_in"]
     else:
-        subprocess.run(["rt", "staticlib", crate], cwd=ROOT, check=True, stdout=subprocess.DEVNULL)
-        command += ["-L", "target/staticlib", "-l", f"static={crate}"]
+        subprocess.run(["rt", "lib"], cwd=ROOT / "crates" / crate, check=True, stdout=subprocess.DEVNULL)
+        command += ["-L", f"crates/{crate}/out", "-l", f"static={crate}"]
     subprocess.run(command, cwd=ROOT, check=True)
     return program
 

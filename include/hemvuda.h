@@ -1,7 +1,7 @@
 /* Hemvuda: Lezer grammar files, read, compared and written in one fixed way.
  *
  * The calls are those of crates/grammar_c, proved equal to the definitions in crates/grammar/specs: for all arguments, and with nothing
- * assumed of what is handed in or lent. Link target/staticlib/libgrammar_c.a (rt staticlib grammar_c), for Linux on x86-64.
+ * assumed of what is handed in or lent. Link crates/grammar_c/out/libgrammar_c.a (rt lib, in crates/grammar_c), for Linux on x86-64.
  *
  * What the compiler of C has to keep: every pointer is valid for its length (records and answer count words, all else bytes) and is not
  * NULL, also where the length is 0; and nothing that is written to overlaps with anything else that is handed over. Nothing is kept

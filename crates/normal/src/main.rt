@@ -1,11 +1,14 @@
 // Standard input to standard output: the normal text of a grammar file, or the line of its refusal.
 #![tactic(auto)]
-ghost use Rattle.std.specs.Prelude.{◌≤◌, ◌≡◌, length, take, replicate};
+
+ghost use Rattle.std.specs.Prelude.{◌≤◌, ◌≡◌, length, take, replicate, IfSome, OnOk};
+ghost use Rattle.std.specs.Io.KnownBytes.{Appends};
 ghost use Rattle.grammar.specs.Program.{printed};
 
+use anyhow::{Context, Result};
 use calls::NormalAnswer;
-use libc::{STDERR_FILENO, STDIN_FILENO, STDOUT_FILENO};
-use printing::Input;
+use std::io;
+use std::io::{Read, Write};
 
 // What is printed for a text, over the front of the output; how many bytes it has.
 fn answer(text: &[u8], out: &mut [u8]) -> usize
@@ -21,27 +24,24 @@ fn answer(text: &[u8], out: &mut [u8]) -> usize
     }
 }
 
-fn print(text: &[u8]) {
+fn print<W: Write>(text: &[u8], output: &mut W) -> io::Result<()>
+    ensures { OnOk result (Appends (W.contents output.old) (W.contents output.new) (printed text.now)) }
+{
     let mut out = [0u8; 65535];
     let n = answer(text, &mut out);
-    if !io::write_all(STDOUT_FILENO, &out[..n]) {
-        io::write_all(STDERR_FILENO, b"normal: cannot write standard output\n");
-    }
-}
-
-fn run(text: &mut [u8]) {
-    match printing::read_all(STDIN_FILENO, text) {
-        Input::Failed => {
-            io::write_all(STDERR_FILENO, b"normal: cannot read standard input\n");
-        }
-        Input::Bytes(n) => {
-            print(&text[..n]);
-        }
-    }
+    output.write_all(&out[..n])
 }
 
 // One byte more than a text may have is read, so that a longer one is refused.
-fn main() {
+fn run<R: Read, W: Write>(input: &mut R, output: &mut W) -> Result<()>
+    ensures { OnOk result (IfSome (R.remaining input.old)
+        (λ text. Appends (W.contents output.old) (W.contents output.new) (printed text))) }
+{
     let mut text = [0u8; 65536];
-    run(&mut text);
+    let n = printing::read_all(input, &mut text).context("normal: cannot read standard input")?;
+    print(&text[..n], output).context("normal: cannot write standard output")
+}
+
+fn main(rt: HostRuntime) -> Result<()> {
+    run(&mut rt.stdin(), &mut rt.stdout())
 }

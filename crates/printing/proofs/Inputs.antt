@@ -1,23 +1,22 @@
--- What a read of the rest of a buffer leaves.
+-- What a read into the rest of a buffer leaves.
 -- Assumes nothing.
-use Prim.Native.Nat.{ℕ, ◌+◌, ◌-◌, ◌≤◌}
-use mathlib.Core.Path.{◌≡◌}
-use mathlib.Core.List.{List}
-use native.Mathlib.Omega.{arith}
-use lib.ListN.{length, take, drop, length-drop}
-use lib.Seq.{take_all}
-use Rattle.printing.specs.Promise.{Within}
-use Rattle.printing.specs.declared.Input.{Input}
-use Rattle.printing.specs.declared.Input.TheVariants.{Bytes}
+use Rattle.std.proofs.Common.{◌≡◌, ℕ, ◌+◌, ◌-◌, ◌≤◌, List, ◌++◌, Option, length, take, drop, sym, subst, drop_at, length-take-le}
+use lib.Seq.{take-add, take-append-le, take_at}
+use borrow.Rule.Slice.PartMut.{put_mid, post_of}
+use Rattle.std.specs.Io.KnownBytes.{Consumes}
+use Rattle.std.proofs.KnownBytes.{Consumes-trans}
 
--- so many bytes of the rest from n on lie within the buffer
-pub rest-within : (r : Input) (xs : List ℕ) {n m : ℕ} → Within r (length (take (length xs - n) (drop n xs))) → r ≡ Bytes m → n ≤ length xs → n + m ≤ length xs
-rest-within r xs {n} {m} h e k =
-    let l : m ≤ length (take (length xs - n) (drop n xs)) = rw e at h in
-    let z : take (length xs - n) (drop n xs) ≡ drop n xs = take_all (length xs - n) (drop n xs) (simp length-drop (omega arith)) in
-    let q : m ≤ length xs - n = rw (z, length-drop) at l in
-    omega arith
+module _ (n m : ℕ) (buf part : List ℕ) (within : n ≤ length buf) (fits : m ≤ length part) where
+  -- the bytes that came first, and then those that came now
+  front : take (n + m) (put_mid n (length buf - n) buf part) ≡ take n buf ++ take m part
+  front =
+      let rest = part ++ post_of n (length buf - n) buf in
+      let l : length (take n buf) ≡ n = length-take-le n buf within in
+      let p : take n (take n buf ++ rest) ≡ take n buf = take_at (take n buf) rest n l in
+      let q : drop n (take n buf ++ rest) ≡ rest = drop_at (take n buf) rest n l in
+      let r : take m rest ≡ take m part = take-append-le m part (post_of n (length buf - n) buf) fits in
+      rw (take-add n m (take n buf ++ rest), p, q, r)
 
--- so many bytes came
-pub of-bytes : (r : Input) {n l : ℕ} → Within r l → r ≡ Bytes n → n ≤ l
-of-bytes r h e = rw e at h
+  pub taken-more : (a b c : Option (List ℕ)) → Consumes a b (take n buf) → Consumes b c (take m part)
+      → Consumes a c (take (n + m) (put_mid n (length buf - n) buf part))
+  taken-more a b c before now = subst (Consumes a c) (sym front) (Consumes-trans a b c (take n buf) (take m part) before now)

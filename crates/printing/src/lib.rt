@@ -1,47 +1,39 @@
 // What the programs share: an input that is read whole, numbers in decimal, and the line of a refusal.
 #![tactic(auto)]
+
 ghost use Rattle.std.specs.Prelude.{◌+◌, ◌≤◌, ◌<◌, ◌^◌, [], ◌++◌, length};
 ghost use Rattle.error.specs.Promise.{refusal_of};
 ghost use Rattle.output.specs.Promise.{Adds, Wrote};
 ghost use Rattle.grammar.specs.Program.{decimal, refusal_line};
-ghost use Rattle.printing.specs.Promise.{Within, DigitsOf, from_column, from_line, from_place};
+ghost use Rattle.printing.specs.Promise.{Within, Takes, Fills, DigitsOf, from_column, from_line, from_place};
 
 use error::Refusal;
 use output::{put, put_byte, upto};
-
-// How many bytes of a buffer came from an input, or that a read failed.
-#[derive(Clone, Copy)]
-pub enum Input {
-    Bytes(usize),
-    Failed,
-}
+use std::io;
+use std::io::Read;
 
 // One read. It gives no bytes at the end of the input.
-fn read_some(fd: i32, buf: &mut [u8]) -> Input
-    ensures { Within result (length buf.old) }
+fn read_some<R: Read>(input: &mut R, buf: &mut [u8]) -> io::Result<usize>
+    ensures within { Within result (length buf.new) }
+    ensures bytes { Takes (R.remaining input.old) (R.remaining input.new) result buf.new }
 {
-    let got = libc::read(fd, buf);
-    if got < 0 {
-        return Input::Failed;
-    }
-    Input::Bytes(io::count(got, buf))
+    input.read(buf)
 }
 
 // Reads until the input ends or the buffer is full. A read that fails is not taken for the end.
-pub fn read_all(fd: i32, buf: &mut [u8]) -> Input
-    ensures { Within result (length buf.new) }
+pub fn read_all<R: Read>(input: &mut R, buf: &mut [u8]) -> io::Result<usize>
+    ensures within { Within result (length buf.new) }
+    ensures bytes { Fills (R.remaining input.old) (R.remaining input.new) result buf.new }
 {
     let mut n = 0;
     while n < buf.len() {
-        let Input::Bytes(more) = read_some(fd, &mut buf[n..]) else {
-            return Input::Failed;
-        };
+        let more = read_some(input, &mut buf[n..])?;
         if more == 0 {
-            return Input::Bytes(n);
+            return Ok(n);
         }
         n += more;
     }
-    Input::Bytes(n)
+    Ok(n)
 }
 
 // The digits of a number, the first ones by a call.

@@ -4,74 +4,69 @@
 // Texts come on standard input, each ended by the byte 0x1E, which stands in none of them. For each its number is printed, and then the
 // line of a refusal; or a line for each record, the bytes of the texts in hexadecimal, and what `normal` prints.
 #![tactic(auto)]
+
 ghost use Rattle.std.specs.Prelude.{◌≤◌, length};
 
+use anyhow::{Context, Result};
 use calls::{NormalAnswer, ReadAnswer};
 use error::Refusal;
-use libc::{STDERR_FILENO, STDIN_FILENO, STDOUT_FILENO};
-use printing::Input;
+use std::io;
+use std::io::{BufWriter, Read, Write};
 
 const END: u8 = 0x1E;
 
-fn print_refusal(refusal: Refusal, out: &mut [u8]) {
+fn print_refusal<W: Write>(refusal: Refusal, out: &mut [u8], to: &mut W) -> io::Result<()> {
     let n = output::upto(printing::put_refusal(refusal, out), out.len());
-    io::write_all(STDOUT_FILENO, &out[..n]);
-}
-
-fn word(x: u32) -> u64 {
-    x as u64
-}
-
-fn byte(x: u8) -> u64 {
-    x as u64
+    to.write_all(&out[..n])
 }
 
 // Seven words a line.
-fn print_words(records: &[u32]) {
-    let mut i = 0;
-    while i < records.len() {
-        io::print_decimal(STDOUT_FILENO, word(records[i]));
-        if i % 7 == 6 {
-            io::write_all(STDOUT_FILENO, b"\n");
-        } else {
-            io::write_all(STDOUT_FILENO, b" ");
-        }
-        i += 1;
+fn print_words<W: Write>(records: &[u32], to: &mut W) -> io::Result<()> {
+    for (i, word) in records.iter().enumerate() {
+        let end = if i % 7 == 6 { '\n' } else { ' ' };
+        write!(to, "{word}{end}")?;
     }
+    Ok(())
 }
 
-fn print_bytes(texts: &[u8]) {
-    let mut i = 0;
-    while i < texts.len() {
-        io::print_hex(STDOUT_FILENO, byte(texts[i]), 2);
-        i += 1;
+fn print_bytes<W: Write>(texts: &[u8], to: &mut W) -> io::Result<()> {
+    for byte in texts {
+        write!(to, "{byte:02x}")?;
     }
-    io::write_all(STDOUT_FILENO, b"\n");
+    writeln!(to)
 }
 
-fn print_normal(text: &[u8], records: &mut [u32], texts: &mut [u8], out: &mut [u8]) {
+fn print_normal<W: Write>(
+    text: &[u8],
+    records: &mut [u32],
+    texts: &mut [u8],
+    out: &mut [u8],
+    to: &mut W,
+) -> io::Result<()> {
     match calls::normal_text(text, records, texts, out) {
-        NormalAnswer::Refused(refusal) => {
-            print_refusal(refusal, out);
-        }
+        NormalAnswer::Refused(refusal) => print_refusal(refusal, out, to),
         NormalAnswer::Written(m) => {
             let n = output::upto(m, out.len());
-            io::write_all(STDOUT_FILENO, &out[..n]);
+            to.write_all(&out[..n])
         }
     }
 }
 
-fn replay(text: &[u8], records: &mut [u32], texts: &mut [u8], out: &mut [u8]) {
+fn replay<W: Write>(
+    text: &[u8],
+    records: &mut [u32],
+    texts: &mut [u8],
+    out: &mut [u8],
+    to: &mut W,
+) -> io::Result<()> {
     match calls::read(text, records, texts) {
-        ReadAnswer::Refused(refusal) => {
-            print_refusal(refusal, out);
-        }
+        ReadAnswer::Refused(refusal) => print_refusal(refusal, out, to),
         ReadAnswer::Stored(m, y) => {
             let n = output::upto(m, records.len());
             let x = output::upto(y, texts.len());
-            print_words(&records[..n]);
-            print_bytes(&texts[..x]);
-            print_normal(text, records, texts, out);
+            print_words(&records[..n], to)?;
+            print_bytes(&texts[..x], to)?;
+            print_normal(text, records, texts, out, to)
         }
     }
 }
@@ -91,39 +86,42 @@ fn text_end(input: &[u8], at: usize) -> usize
     i
 }
 
-fn replay_all(input: &[u8], records: &mut [u32], texts: &mut [u8], out: &mut [u8]) {
+fn replay_all<W: Write>(
+    input: &[u8],
+    records: &mut [u32],
+    texts: &mut [u8],
+    out: &mut [u8],
+    to: &mut W,
+) -> io::Result<()> {
     let mut at = 0;
     let mut number: u64 = 0;
     while at < input.len() {
         let end = text_end(input, at);
-        io::write_all(STDOUT_FILENO, b"text ");
-        io::print_decimal(STDOUT_FILENO, number);
-        io::write_all(STDOUT_FILENO, b"\n");
-        replay(&input[at..end], records, texts, out);
+        writeln!(to, "text {number}")?;
+        replay(&input[at..end], records, texts, out, to)?;
         if end == input.len() {
-            return;
+            return Ok(());
         }
         at = end + 1;
         number += 1;
     }
+    Ok(())
 }
 
 // As much is lent as by the program `normal`.
-fn run(input: &mut [u8]) {
+fn run<R: Read, W: Write>(from: &mut R, input: &mut [u8], to: &mut W) -> Result<()> {
     let mut records = [0u32; 14000];
     let mut texts = [0u8; 32768];
     let mut out = [0u8; 65535];
-    match printing::read_all(STDIN_FILENO, input) {
-        Input::Failed => {
-            io::write_all(STDERR_FILENO, b"vectors: cannot read standard input\n");
-        }
-        Input::Bytes(n) => {
-            replay_all(&input[..n], &mut records, &mut texts, &mut out);
-        }
-    }
+    let n = printing::read_all(from, input).context("vectors: cannot read standard input")?;
+    replay_all(&input[..n], &mut records, &mut texts, &mut out, to).context(
+        "vectors: cannot write standard output",
+    )
 }
 
-fn main() {
+fn main(rt: HostRuntime) -> Result<()> {
     let mut input = [0u8; 262144];
-    run(&mut input);
+    let mut to = BufWriter::new(rt.alloc(), rt.stdout())?;
+    run(&mut rt.stdin(), &mut input, &mut to)?;
+    to.flush().context("vectors: cannot write standard output")
 }
