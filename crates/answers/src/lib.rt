@@ -1,5 +1,6 @@
 // Answers as plain words, for callers in Rust or C.
 #![tactic(auto)]
+
 ghost use Rattle.std.specs.Prelude.{◌≡◌, [], ◌∷◌};
 ghost use Rattle.answers.specs.Words.{laid};
 

@@ -5,11 +5,11 @@ use Prim.Native.Char.{Char, code}
 use Prim.Native.String.{String}
 use Rattle.std.proofs.Math.Option.{Option, none, some}
 
-infixr 10 if◌then◌else◌
+infixr 10 if◌then◌otherwise◌
 -- the first where the test holds, the second where it does not
-abbrev pub if◌then◌else◌ {ℓ} : {A : Type ℓ} → Bool → A → A → A
-if true then a else b = a
-if false then a else b = b
+abbrev pub if◌then◌otherwise◌ {ℓ} : {A : Type ℓ} → Bool → A → A → A
+if true then a otherwise b = a
+if false then a otherwise b = b
 
 -- from lo to hi, both in
 abbrev pub within : ℕ → ℕ → ℕ → Bool

@@ -5,7 +5,7 @@ use mathlib.Core.Path.{◌≡◌, refl}
 use mathlib.Core.Bool.{Bool, true, false}
 use mathlib.Core.List.{List, []}
 use mathlib.Core.Option.{Option, none, some}
-use Rattle.error.specs.Causes.{not_aTree}
+use Rattle.error.specs.Causes.{not_a_tree}
 use Rattle.error.specs.Lines.{line_at, column_at, line_feeds, line_start, refusal_at}
 use Rattle.error.specs.Promise.{refusal_of}
 use Rattle.error.specs.declared.Refusal as declared
@@ -29,7 +29,7 @@ refused-first s c = refl
 abbrev answer_of : Comparison → Calls.CompareAnswer
 answer_of Equal = Calls.CompareAnswer.compared true
 answer_of Different = Calls.CompareAnswer.compared false
-answer_of NotATree = Calls.CompareAnswer.refused (refusal_at [] not_aTree 0)
+answer_of NotATree = Calls.CompareAnswer.refused (refusal_at [] not_a_tree 0)
 
 compared_as : (a b : Option Branch) → answer_of (comparison a b) ≡ compare_by a b
 compared_as (some a) (some b) = by_answer (structurally_eq a b)
@@ -51,5 +51,5 @@ module _ (ls lts rs rts : List ℕ) (r : Comparison) (e : r ≡ comparison (buil
   pub compared-different : r ≡ Different → CompareTo ls lts rs rts (Compared false)
   compared-different q = rw q at is
 
-  pub compared_not : (f : declared.Refusal) → r ≡ NotATree → refusal_of f ≡ refusal_at lts not_aTree 0 → CompareTo ls lts rs rts (Refused f)
-  compared_not f q i = let e : answer_of NotATree ≡ compare ls lts rs rts = rw q at is in rw (i, refused-first lts not_aTree) e
+  pub compared_not : (f : declared.Refusal) → r ≡ NotATree → refusal_of f ≡ refusal_at lts not_a_tree 0 → CompareTo ls lts rs rts (Refused f)
+  compared_not f q i = let e : answer_of NotATree ≡ compare ls lts rs rts = rw q at is in rw (i, refused-first lts not_a_tree) e

@@ -9,7 +9,7 @@ use lib.Dec.{ltb}
 use lib.ListN.{length, take, drop, length-append, length-take}
 use lib.Seq.{take-append_seam}
 use borrow.Author.Tests.{ltb-true, ltb-false}
-use Rattle.basics.specs.Basics.{if◌then◌else◌, over}
+use Rattle.basics.specs.Basics.{if◌then◌otherwise◌, over}
 use Rattle.basics.proofs.Tests.{impossible}
 use Rattle.error.specs.Causes.{records_full, texts_full, output_full}
 use Rattle.error.specs.Lines.{Refusal, refusal_at}
@@ -46,7 +46,7 @@ roomed words bytes (stopped n p) e = not_tree e
 roomed words bytes (tree h) {g} e = by_tests (ltb words (length (grammar_words h))) (ltb bytes (length (grammar_texts h))) refl refl e
   where
     by_tests : (a b : Bool) → ltb words (length (grammar_words h)) ≡ a → ltb bytes (length (grammar_texts h)) ≡ b
-        → (if a then stopped records_full 0 else if b then stopped texts_full 0 else tree h) ≡ tree g → Roomed words bytes (tree h) g
+        → (if a then stopped records_full 0 otherwise if b then stopped texts_full 0 otherwise tree h) ≡ tree g → Roomed words bytes (tree h) g
     by_tests true b p q f = not_tree f
     by_tests false true p q f = not_tree f
     by_tests false false p q f =
@@ -142,14 +142,14 @@ module _ (s : List ℕ) {ws ts out new : List ℕ} (r : Written) (does : WroteNo
     abbrev Is : Type 0
     Is = normal_outcome a (over (grammar_words k.grammar) vs) (over (grammar_texts k.grammar) us) new ≡ write_by s vs us out k.grammar
 
-    done-by : {m : ℕ} (b : Bool) → a ≡ Normal.Written m → r ≡ Bytes m → too_long longest t out ≡ b → r ≡ (if b then TooLong else Bytes (length t))
-        → new ≡ (if b then out else t ++ drop (length t) out) → Is
+    done-by : {m : ℕ} (b : Bool) → a ≡ Normal.Written m → r ≡ Bytes m → too_long longest t out ≡ b → r ≡ (if b then TooLong otherwise Bytes (length t))
+        → new ≡ (if b then out otherwise t ++ drop (length t) out) → Is
     unfolding write_by
     done-by true c q h e o = impossible (cc)
     done-by {m} false c q h e o = let l : m ≡ length t = cc in rw (c, h, l, o)
 
     full_by : {f : declared.Refusal} (b : Bool) → a ≡ Normal.Refused f → refusal_of f ≡ refusal_at s output_full 0 → r ≡ TooLong → too_long longest t out ≡ b
-        → r ≡ (if b then TooLong else Bytes (length t)) → new ≡ (if b then out else t ++ drop (length t) out) → Is
+        → r ≡ (if b then TooLong otherwise Bytes (length t)) → new ≡ (if b then out otherwise t ++ drop (length t) out) → Is
     unfolding write_by
     full_by true c i q h e o = rw (c, h, i, o)
     full_by false c i q h e o = impossible (cc)

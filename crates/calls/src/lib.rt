@@ -1,5 +1,6 @@
 // The library's calls.
 #![tactic(auto)]
+
 ghost use Rattle.writer.specs.Promise.{Stored};
 ghost use Rattle.calls.specs.Promise.{ReadTo, Few, WriteTo, NormalTo, CompareTo};
 

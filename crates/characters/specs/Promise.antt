@@ -1,7 +1,7 @@
 -- What the functions' contracts say beside the definitions.
 -- Assumes nothing.
 use Rattle.std.specs.Prelude.{ℕ, ◌+◌, ◌≤◌, ◌<◌, ◌≡◌, Bool, true, ◌&&◌, ◌||◌, List, [], ◌∷◌, ◌++◌, leb, ltb, eqb, length, get_or, take, drop}
-use Rattle.basics.specs.Basics.{if◌then◌else◌, is, within}
+use Rattle.basics.specs.Basics.{if◌then◌otherwise◌, is, within}
 use Rattle.characters.specs.Utf8.{is_scalar, encode, width}
 use Rattle.characters.specs.Spans.{Span}
 use Rattle.characters.specs.Places.{chars_at, past, run}
@@ -10,10 +10,10 @@ use Rattle.characters.specs.Places.{chars_at, past, run}
 unfoldable pub is_second : (a b : ℕ) → Bool
 is_second a b =
     if eqb a 0xE0 then within 0xA0 0xBF b
-    else if eqb a 0xED then within 0x80 0x9F b
-    else if eqb a 0xF0 then within 0x90 0xBF b
-    else if eqb a 0xF4 then within 0x80 0x8F b
-    else within 0x80 0xBF b
+    otherwise if eqb a 0xED then within 0x80 0x9F b
+    otherwise if eqb a 0xF0 then within 0x90 0xBF b
+    otherwise if eqb a 0xF4 then within 0x80 0x8F b
+    otherwise within 0x80 0xBF b
 
 -- the place where the run of characters that pass a test ends: `scan_while`
 unfoldable pub run_end : (ℕ → Bool) → List ℕ → ℕ → ℕ
@@ -26,7 +26,7 @@ pub record Next (text : List ℕ) (at c : ℕ) : Type 0 where
 
 -- the bytes bs laid over those from a place on, where they fit
 unfoldable pub written : List ℕ → ℕ → List ℕ → List ℕ
-written out at bs = if leb (at + length bs) (length out) then take at out ++ bs ++ drop (at + length bs) out else out
+written out at bs = if leb (at + length bs) (length out) then take at out ++ bs ++ drop (at + length bs) out otherwise out
 
 -- characters written one after another, each where it fits
 unfoldable pub written_all : List ℕ → ℕ → List ℕ → List ℕ
@@ -35,7 +35,7 @@ written_all out at (c ∷ cs) = written_all (written out at (encode c)) (at + wi
 
 -- the bytes of a scalar; a code that is none has no bytes
 unfoldable pub scalar_bytes : ℕ → List ℕ
-scalar_bytes c = if is_scalar c then encode c else []
+scalar_bytes c = if is_scalar c then encode c otherwise []
 
 -- an ASCII letter: below 0x80, Alphabetic is that
 unfoldable pub is_ascii_letter : ℕ → Bool

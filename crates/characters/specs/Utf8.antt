@@ -1,7 +1,7 @@
 -- UTF-8 by Unicode's table 3-7, Well-Formed UTF-8 Byte Sequences, and table 3-6, the bits of a code. Numbers as the tables have them.
 -- Assumes nothing.
 use Rattle.std.specs.Prelude.{Bool, ◌&&◌, ◌||◌, List, [], ◌∷◌, ◌++◌, ℕ, zero, suc, ◌+◌, ◌-◌, ◌*◌, ◌/◌, ◌%◌, leb, ltb, eqb, length, get_or}
-use Rattle.basics.specs.Basics.{if◌then◌else◌, within}
+use Rattle.basics.specs.Basics.{if◌then◌otherwise◌, within}
 use Rattle.characters.specs.declared.Char.{Char}
 use Rattle.characters.specs.declared.Char.TheVariants.{Scalar, Ill}
 use Rattle.characters.specs.declared.Checked.{Checked}
@@ -15,24 +15,24 @@ row alo ahi blo bhi a b = within alo ahi a && within blo bhi b
 unfoldable pub lead_len : (a b : ℕ) → ℕ
 lead_len a b =
     if within 0x00 0x7F a then 1
-    else if row 0xC2 0xDF 0x80 0xBF a b then 2
-    else if row 0xE0 0xE0 0xA0 0xBF a b then 3
-    else if row 0xE1 0xEC 0x80 0xBF a b then 3
-    else if row 0xED 0xED 0x80 0x9F a b then 3
-    else if row 0xEE 0xEF 0x80 0xBF a b then 3
-    else if row 0xF0 0xF0 0x90 0xBF a b then 4
-    else if row 0xF1 0xF3 0x80 0xBF a b then 4
-    else if row 0xF4 0xF4 0x80 0x8F a b then 4
-    else 0
+    otherwise if row 0xC2 0xDF 0x80 0xBF a b then 2
+    otherwise if row 0xE0 0xE0 0xA0 0xBF a b then 3
+    otherwise if row 0xE1 0xEC 0x80 0xBF a b then 3
+    otherwise if row 0xED 0xED 0x80 0x9F a b then 3
+    otherwise if row 0xEE 0xEF 0x80 0xBF a b then 3
+    otherwise if row 0xF0 0xF0 0x90 0xBF a b then 4
+    otherwise if row 0xF1 0xF3 0x80 0xBF a b then 4
+    otherwise if row 0xF4 0xF4 0x80 0x8F a b then 4
+    otherwise 0
 
 -- the character of n bytes, which begin a, b, c, d: its third and fourth column of table 3-7, its code by table 3-6
 unfoldable pub char_of : (n a b c d : ℕ) → Char
 char_of n a b c d =
     if eqb n 1 then Scalar a 1
-    else if eqb n 2 then Scalar (a % 32 * 64 + b % 64) 2
-    else if eqb n 3 && within 0x80 0xBF c then Scalar (a % 16 * 4096 + b % 64 * 64 + c % 64) 3
-    else if eqb n 4 && (within 0x80 0xBF c && within 0x80 0xBF d) then Scalar (a % 8 * 262144 + b % 64 * 4096 + c % 64 * 64 + d % 64) 4
-    else Ill
+    otherwise if eqb n 2 then Scalar (a % 32 * 64 + b % 64) 2
+    otherwise if eqb n 3 && within 0x80 0xBF c then Scalar (a % 16 * 4096 + b % 64 * 64 + c % 64) 3
+    otherwise if eqb n 4 && (within 0x80 0xBF c && within 0x80 0xBF d) then Scalar (a % 8 * 262144 + b % 64 * 4096 + c % 64 * 64 + d % 64) 4
+    otherwise Ill
 
 -- the first character of a text. Past the end get_or gives 0, which is no trailing byte
 unfoldable pub first_char : List ℕ → Char
@@ -73,9 +73,9 @@ is_scalar c = ltb c 0xD800 || (leb 0xE000 c && ltb c 0x110000)
 unfoldable pub encode : ℕ → List ℕ
 encode c =
     if ltb c 0x80 then c ∷ []
-    else if ltb c 0x800 then (0xC0 + c / 64) ∷ (0x80 + c % 64) ∷ []
-    else if ltb c 0x10000 then (0xE0 + c / 4096) ∷ (0x80 + c / 64 % 64) ∷ (0x80 + c % 64) ∷ []
-    else (0xF0 + c / 262144) ∷ (0x80 + c / 4096 % 64) ∷ (0x80 + c / 64 % 64) ∷ (0x80 + c % 64) ∷ []
+    otherwise if ltb c 0x800 then (0xC0 + c / 64) ∷ (0x80 + c % 64) ∷ []
+    otherwise if ltb c 0x10000 then (0xE0 + c / 4096) ∷ (0x80 + c / 64 % 64) ∷ (0x80 + c % 64) ∷ []
+    otherwise (0xF0 + c / 262144) ∷ (0x80 + c / 4096 % 64) ∷ (0x80 + c / 64 % 64) ∷ (0x80 + c % 64) ∷ []
 
 -- the bytes of a text
 unfoldable pub encode_all : List ℕ → List ℕ

@@ -1,5 +1,6 @@
 // The functions of characters and error under plain names, for programs in Rust or C to link: compare/characters does.
 #![tactic(auto)]
+
 ghost use Rattle.std.specs.Prelude.{◌≡◌, length};
 ghost use Rattle.characters.specs.Utf8.{check, is_scalar};
 ghost use Rattle.characters.specs.Alphabetic.{is_alphabetic};

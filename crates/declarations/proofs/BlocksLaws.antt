@@ -37,7 +37,7 @@ use Rattle.tokens.specs.declared.Taken.TheVariants as G
 use Rattle.tokens.proofs.Stream.{start-of, at-of}
 use Rattle.parser.proofs.Onward.{if_true, onward_then, onward-least, next-onward, expect-onward}
 use Rattle.parser.proofs.Lists.{flat-none, flat-more, lays-then, lays-between}
-use Rattle.parser.proofs.Ready.{ready_step, ready_on, put-plain_asks, lists-small, name-got, lays-leaf, lays_parent, arrived-at, taken_at, nodes-leaf, nodes-over}
+use Rattle.parser.proofs.Ready.{ready_step, ready_on, put-plain_asks, lists-small, name-got, lays-leaf, lays_parent, arrived-at, identifier_at, nodes-leaf, nodes-over}
 use Rattle.tree.specs.declared.PrecKind.{PrecKind as DeclaredPrec}
 use Rattle.declarations.specs.Promise.{prec_taken_cause, prec_taken_place, conflict_pair, PrecGot, TakesPrec, precedence_branch}
 use Rattle.declarations.specs.declared.blocks.PrecTaken.{PrecTaken}
@@ -400,7 +400,7 @@ item-given s t {u} {v} {a} {e} {k = k} l r i q g d j st =
     let o₂ = m.1.past in
     record {
       value = record { id = record { start = start_in t; name = part_of s a e }; kind = k };
-      gives = item-read (stream s t) (taken_at _ s r i.takes q) g.gives;
+      gives = item-read (stream s t) (identifier_at s _ r i q) g.gives;
       onward = o;
       lays = rw (nodes-leaf (full 21 (start_in t) (part_of s a e) (prec_value k)), m.0.part.bytes, ← d, ← j) (lays-leaf st o (omega arith));
     }

@@ -27,7 +27,7 @@ use Rattle.tokens.specs.declared.Current.{Current}
 use Rattle.tokens.specs.declared.Taken.{Taken}
 use Rattle.tokens.specs.declared.Taken.TheVariants as G
 use Rattle.parser.proofs.Onward.{onward-here, onward_then, onward-least}
-use Rattle.parser.proofs.Ready.{Short, part-short, cut-length, name-got, taken_at, taken_not}
+use Rattle.parser.proofs.Ready.{Short, part-short, cut-length, name-got, taken_at, identifier_at, taken_not}
 use Rattle.parser.proofs.Stored.{stores-then}
 use Rattle.declarations.specs.Sources.{GotSource, as_name, GotId, TakesId}
 use Rattle.declarations.proofs.SourceLaws.{from-small}
@@ -152,7 +152,7 @@ module _ {s : List ℕ} {t u v w : Current} {a e b f c g start p : ℕ} (r : Tak
       let three = three-texts (cut s a e) (encode_all (decode_string (part_of s c g))) (cut s b f) (start_in t) start in
       record {
         value = record { start = start; id = part_of s b f; external_id = record { start = start_in t; name = part_of s a e }; source = decode_string (part_of s c g) };
-        gives = prop-read start (stream s t) (taken_at _ s r i.takes q) h.gives k.gives;
+        gives = prop-read start (stream s t) (identifier_at s _ r i q) h.gives k.gives;
         onward = onward-least 1 (onward_then (onward_then d.1.onward h.onward) k.onward) (omega arith);
         lays = rw (n, bytes, other) (record { stores = stores-then (stores-then (rw st at x) y) z; bound = omega arith; space = omega arith });
       }

@@ -24,7 +24,7 @@ use Rattle.parser.specs.Steps.{Onward, Ready, Gives, Lists, ParsesList}
 use Rattle.parser.specs.Shapes.{Yields, YieldsBraced, Head, parse_head, Heads}
 use Rattle.tokens.specs.declared.Current.{Current}
 use Rattle.tokens.specs.declared.Arrived.{Arrived}
-use Rattle.tokens.specs.declared.Arrived.TheVariants.{At, Refused}
+use Rattle.tokens.specs.declared.Arrived.TheVariants.{At}
 use Rattle.tokens.specs.declared.Taken.{Taken}
 use Rattle.tokens.specs.declared.Taken.TheVariants as G
 use Rattle.tokens.specs.declared.Part.TheVariants.{From}
@@ -35,7 +35,7 @@ use Rattle.parser.specs.declared.parts.Shape.TheVariants.{Name, Literal, Repeat,
 use Rattle.tokens.proofs.Stream.{start-of}
 use Rattle.parser.proofs.Onward.{placed_in, onward_then, onward-least, expect-onward}
 use Rattle.parser.proofs.Lists.{lays-then, lays-between}
-use Rattle.parser.proofs.Ready.{name-got, next-got, got-less, string-in, stored-text, lays_parent, arrived-at, taken_at, nodes-each, count-each, nodes-over, flat-length}
+use Rattle.parser.proofs.Ready.{name-got, next-got, got-less, string-in, stored-text, lays_parent, arrived-at, identifier_at, nodes-each, count-each, nodes-over, flat-length}
 use Rattle.parser.proofs.Took.{expect-at}
 use Rattle.parser.proofs.InnerRules.{rule-is}
 
@@ -105,7 +105,7 @@ rule-given kind s t {a = a} {e} l r i z h g o st =
     let n = name-got s r l z i in
     record {
       value = record { id = record { start = start_in t; name = part_of s a e }; props = h.listed; params = h.names; expression = g.yields.tree };
-      gives = rule-read (stream s t) (taken_at _ s r i.takes z) h.gives g.yields.gives;
+      gives = rule-read (stream s t) (identifier_at s _ r i z) h.gives g.yields.gives;
       onward = onward-least 1 (onward_then n.1.onward (onward_then h.onward g.yields.onward)) (omega arith);
       lays = rw (nodes-rule (named kind (start_in t) (part_of s a e)) h.listed h.names g.yields.tree, n.0.part.bytes, h.counted, h.numbered, ← o)
           (lays_parent (lays-then h.lays g.yields.lays) st n.1.onward n.1.past (omega arith));
@@ -201,7 +201,7 @@ node-given s t {a = a} {e} l r i z g o st =
     let n = name-got s r l z i in
     record {
       value = record { id = record { start = start_in t; name = part_of s a e }; props = g.items };
-      gives = node-read (stream s t) (taken_at _ s r i.takes z) g.gives;
+      gives = node-read (stream s t) (identifier_at s _ r i z) g.gives;
       onward = onward-least 1 (onward_then n.1.onward g.onward) (omega arith);
       lays = rw (nodes-over prop_branch (named 13 (start_in t) (part_of s a e)) g.items, n.0.part.bytes, g.counted, ← o) (lays_parent g.lays st n.1.onward n.1.past (omega arith));
     }

@@ -34,7 +34,7 @@ use Rattle.tokens.specs.declared.Taken.{Taken}
 use Rattle.tokens.specs.declared.Taken.TheVariants as G
 use Rattle.tokens.proofs.Stream.{start-of}
 use Rattle.parser.proofs.Onward.{if_true, next-onward, onward_then, onward-least, placed_in}
-use Rattle.parser.proofs.Ready.{part-short, cut-length, stored-text, name-got, string-got, taken_at, taken_not}
+use Rattle.parser.proofs.Ready.{part-short, cut-length, stored-text, name-got, string-got, taken_at, identifier_at, taken_not}
 use Rattle.parser.proofs.Stored.{stores-then}
 use Rattle.declarations.specs.Sources.{GotSource, TakesSource, IdSource, from_source, from_branch}
 
@@ -144,7 +144,7 @@ module _ {s : List ℕ} {t u v : Current} {a e b f start : ℕ} (k : ℕ) (r : T
       let two = pair_text (encode_all (decode_string (part_of s b f))) (cut s a e) k start in
       record {
         value = record { id = part_of s a e; source = decode_string (part_of s b f) };
-        gives = from-read (stream s t) (taken_at _ s r i.takes q) g.gives;
+        gives = from-read (stream s t) (identifier_at s _ r i q) g.gives;
         onward = onward-least 1 (onward_then d.1.onward g.onward) (omega arith);
         lays = rw (n, bytes) (record { stores = stores-then y z; bound = omega arith; space = omega arith });
       }

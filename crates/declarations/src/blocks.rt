@@ -55,7 +55,7 @@ fn references_list(
     x: usize,
 ) -> Listed
     requires { Ready source.now token n x }
-    ensures { ParsesList (until (eat "}") commaOrNot (λ _. parseTokenReference badPrecedence) (stream source.now token)) (nodesOf referenceBranch) source.now token 1
+    ensures { ParsesList (until (eat "}") comma_or_not (λ _. parse_token_reference bad_precedence) (stream source.now token)) (nodes_of reference_branch) source.now token 1
         (lent n records.old x texts.old) records.new texts.new result }
 {
     let mut t = token;
@@ -246,7 +246,7 @@ fn prec_items_list(
     x: usize,
 ) -> Listed
     requires { Ready source.now token n x }
-    ensures { ParsesList (until (eat "}") commaOrNot (λ _. parsePrecItem) (stream source.now token)) (nodesOf precItemBranch) source.now token 1
+    ensures { ParsesList (until (eat "}") comma_or_not (λ _. parse_prec_item) (stream source.now token)) (nodes_of prec_item_branch) source.now token 1
         (lent n records.old x texts.old) records.new texts.new result }
 {
     let mut t = token;

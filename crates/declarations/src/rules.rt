@@ -126,7 +126,7 @@ fn names_list(
     x: usize,
 ) -> Listed
     requires { Ready source.now token n x }
-    ensures { ParsesList (until (eat "}") commaOrNot (λ _. parseIdentifier) (stream source.now token)) (nodesOf (nameBranch kind)) source.now token 1
+    ensures { ParsesList (until (eat "}") comma_or_not (λ _. parse_identifier) (stream source.now token)) (nodes_of (name_branch kind)) source.now token 1
         (lent n records.old x texts.old) records.new texts.new result }
 {
     let mut t = token;

@@ -10,7 +10,7 @@ use native.Mathlib.Omega.{arith}
 use lib.ListN.{length, get_or, take}
 use lib.Seq.{take-suc, take_all, length-take-le}
 use borrow.Author.Tests.{eq-eqb, ne_eqb}
-use Rattle.basics.specs.Basics.{if◌then◌else◌, is}
+use Rattle.basics.specs.Basics.{if◌then◌otherwise◌, is}
 use Rattle.error.specs.Lines.{line_feeds, line_start, line_at, column_at}
 
 feeds_append : (xs ys : List ℕ) → line_feeds (xs ++ ys) ≡ line_feeds xs + line_feeds ys
@@ -23,7 +23,7 @@ unfolding line_start
 start-append s p [] ys = rw add-zero
 start-append s p (x ∷ xs) ys =
     let e : p + 1 + length xs ≡ p + suc (length xs) = omega arith in
-    start-append (if is "\n" x then p + 1 else s) (p + 1) xs ys ∙ ap (λ (q : ℕ). line_start (line_start (if is "\n" x then p + 1 else s) (p + 1) xs) q ys) e
+    start-append (if is "\n" x then p + 1 otherwise s) (p + 1) xs ys ∙ ap (λ (q : ℕ). line_start (line_start (if is "\n" x then p + 1 otherwise s) (p + 1) xs) q ys) e
 
 -- what is known of the line and the start of the line before the first i bytes
 pub record Lined (text : List ℕ) (i line start : ℕ) : Type 0 where

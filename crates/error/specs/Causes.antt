@@ -99,5 +99,5 @@ abbrev pub output_full : ℕ
 output_full = 24
 
 -- either compared tree isn't one tree, or its root is no expression
-abbrev pub not_aTree : ℕ
-not_aTree = 25
+abbrev pub not_a_tree : ℕ
+not_a_tree = 25

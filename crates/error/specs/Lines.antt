@@ -1,17 +1,17 @@
 -- Lines and columns of places in bytes: `line_info` of the Rust.
 -- Assumes nothing.
 use Rattle.std.specs.Prelude.{ℕ, ◌+◌, ◌-◌, List, [], ◌∷◌, take}
-use Rattle.basics.specs.Basics.{if◌then◌else◌, is}
+use Rattle.basics.specs.Basics.{if◌then◌otherwise◌, is}
 
 -- how many line feeds there are
 unfoldable pub line_feeds : List ℕ → ℕ
 line_feeds [] = 0
-line_feeds (b ∷ bs) = (if is "\n" b then 1 else 0) + line_feeds bs
+line_feeds (b ∷ bs) = (if is "\n" b then 1 otherwise 0) + line_feeds bs
 
 -- the place after the last line feed of bytes that begin at a place, or s where they have none
 unfoldable pub line_start : (s place : ℕ) → List ℕ → ℕ
 line_start s p [] = s
-line_start s p (b ∷ bs) = line_start (if is "\n" b then p + 1 else s) (p + 1) bs
+line_start s p (b ∷ bs) = line_start (if is "\n" b then p + 1 otherwise s) (p + 1) bs
 
 -- 1 and the line feeds before the place
 unfoldable pub line_at : List ℕ → ℕ → ℕ

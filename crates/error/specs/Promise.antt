@@ -33,7 +33,7 @@ cause_number OverlappingSpan = Causes.overlapping_span
 cause_number RecordsFull = Causes.records_full
 cause_number TextsFull = Causes.texts_full
 cause_number OutputFull = Causes.output_full
-cause_number NotATree = Causes.not_aTree
+cause_number NotATree = Causes.not_a_tree
 
 -- a refusal of the code as one of the definition
 abbrev pub refusal_of : declared.Refusal → Refusal

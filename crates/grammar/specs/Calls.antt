@@ -1,9 +1,9 @@
 -- The library's calls: for any arguments, what each answers and what every lent buffer holds afterwards.
 -- Assumes nothing.
-use Rattle.std.specs.Prelude.{ℕ, Bool, ◌||◌, List, [], ◌++◌, ltb, length}
+use Rattle.std.specs.Prelude.{ℕ, Bool, ◌||◌, List, [], ltb, length}
 use Rattle.std.proofs.Math.Option.{Option, none, some}
-use Rattle.basics.specs.Basics.{if◌then◌else◌, over}
-use Rattle.error.specs.Causes.{records_full, texts_full, output_full, not_aTree}
+use Rattle.basics.specs.Basics.{if◌then◌otherwise◌, over}
+use Rattle.error.specs.Causes.{records_full, texts_full, output_full, not_a_tree}
 use Rattle.error.specs.Lines.{Refusal, line_feeds, line_start, line_at, column_at, refusal_at}
 use Rattle.tree.specs.Records.{Branch}
 use Rattle.tree.specs.Stored.{grammar_words, grammar_texts}
@@ -21,8 +21,8 @@ unfolding grammar_words grammar_texts
 room_for words bytes (stopped n p) = stopped n p
 room_for words bytes (tree g) =
     if ltb words (length (grammar_words g)) then stopped records_full 0
-    else if ltb bytes (length (grammar_texts g)) then stopped texts_full 0
-    else tree g
+    otherwise if ltb bytes (length (grammar_texts g)) then stopped texts_full 0
+    otherwise tree g
 
 -- how many words and bytes the tree takes, or a refusal
 pub data ReadAnswer : Type 0 where
@@ -73,7 +73,7 @@ write_by text records texts output g =
     let ts = over (grammar_texts g) texts in
     if ltb longest (length t) || ltb (length output) (length t)
     then record { answer = refused (refusal_at text output_full 0); records = rs; texts = ts; output = output }
-    else record { answer = written (length t); records = rs; texts = ts; output = over t output }
+    otherwise record { answer = written (length t); records = rs; texts = ts; output = over t output }
 
 -- by what the reading gave: its tree is stored and written, or all is left as it was
 unfoldable pub normal_by : (text records texts output : List ℕ) → Reading → NormalOutcome
@@ -97,8 +97,8 @@ pub data CompareAnswer : Type 0 where
 -- by the two trees, of which either may be none
 abbrev pub compare_by : Option Branch → Option Branch → CompareAnswer
 compare_by (some b) (some c) = compared (structurally_eq b c)
-compare_by (some b) none = refused (refusal_at [] not_aTree 0)
-compare_by none c = refused (refusal_at [] not_aTree 0)
+compare_by (some b) none = refused (refusal_at [] not_a_tree 0)
+compare_by none c = refused (refusal_at [] not_a_tree 0)
 
 -- `structurally_eq`: two stored expressions
 unfoldable pub compare : (left_records left_texts right_records right_texts : List ℕ) → CompareAnswer

@@ -2,6 +2,7 @@
 // call them. An answer is six words: those of a refusal are its cause, its place, line and column, 0, 0; where there is none, the
 // first four are 0. Fewer than six words that are lent for it are left as they were.
 #![tactic(auto)]
+
 ghost use Rattle.std.specs.Prelude.{◌≡◌};
 ghost use Rattle.error.specs.Promise.{refusal_of};
 ghost use Rattle.answers.specs.Words.{laid};

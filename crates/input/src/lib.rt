@@ -1,5 +1,6 @@
 // The reader that holds its text and its current token: thin, over the plain functions on the text and a token.
 #![tactic(auto)]
+
 ghost use Rattle.std.specs.Prelude.{◌≤◌, ◌≡◌, length};
 ghost use Rattle.notation.specs.Parser.{next as next_d};
 ghost use Rattle.tokens.specs.Promise.{stream, end_in, arrival, Lies};

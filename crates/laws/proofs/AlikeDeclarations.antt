@@ -6,7 +6,7 @@ use mathlib.Core.Bool.{Bool, true, false, ◌&&◌, not}
 use mathlib.Core.List.{List, [], ◌∷◌, map, map-append}
 use mathlib.Core.Option.{Option, none, some}
 use lib.Dec.{eqb}
-use Rattle.basics.specs.Basics.{if◌then◌else◌, spells, last_of, first_element, is_empty, picked}
+use Rattle.basics.specs.Basics.{if◌then◌otherwise◌, spells, last_of, first_element, is_empty, picked}
 use Rattle.error.specs.Causes.{no_top}
 use Rattle.lexer.specs.Tokens.{Tokens}
 use Rattle.tree.specs.Syntax.{SpecializeKind, RuleDeclaration, TokenReference, NamedNode, Declaration, start_of, declaration_kind, of_kind, groups, has_kind}
@@ -351,7 +351,7 @@ module _ {S T : Type 0} (f : S → T) where
       rw (seen-on 14 before) (choose_alike (seen 14 before) (refuse_alike _ p)
       (bind_alike _ parse_identifier_alike λ n. bind_alike _ parse_source_alike λ s. pure_alike _ refl))
 
-  skip_member : (b : Bool) (r : RuleDeclaration S) → (if b then SkipMember.top_rule (on_rule f r) else SkipMember.rule (on_rule f r)) ≡ on_skip_member (if b then SkipMember.top_rule r else SkipMember.rule r)
+  skip_member : (b : Bool) (r : RuleDeclaration S) → (if b then SkipMember.top_rule (on_rule f r) otherwise SkipMember.rule (on_rule f r)) ≡ on_skip_member (if b then SkipMember.top_rule r otherwise SkipMember.rule r)
   unfolding on_skip_member
   skip_member true r = refl
   skip_member false r = refl

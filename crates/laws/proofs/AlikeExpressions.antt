@@ -7,7 +7,7 @@ use mathlib.Core.List.{List, [], ◌∷◌, ◌++◌, map, map-append, map-id}
 use mathlib.Core.Option.{Option, none, some}
 use lib.Dec.{eqb}
 use lib.ListN.{length}
-use Rattle.basics.specs.Basics.{if◌then◌else◌, letters, is, spells}
+use Rattle.basics.specs.Basics.{if◌then◌otherwise◌, letters, is, spells}
 use Rattle.characters.specs.Spans.{Span}
 use Rattle.lexer.specs.Tokens.{Kind}
 use Rattle.lexer.specs.Escapes.{decode_string}
@@ -23,7 +23,7 @@ use Rattle.laws.proofs.Alike.{Alike, same, bind_alike, pure_alike, refuse_alike,
 
 module _ {S T : Type 0} (f : S → T) where
   pub if_alike : {A B : Type 0} {g : A → B} (b : Bool) {p p' : Parser S A} {q q' : Parser T B} → Alike f g p q → Alike f g p' q'
-      → Alike f g (if b then p else p') (if b then q else q')
+      → Alike f g (if b then p otherwise p') (if b then q otherwise q')
   if_alike true h k = h
   if_alike false h k = k
 
@@ -201,7 +201,7 @@ module _ {S T : Type 0} (f : S → T) where
   first_empty_on [] = refl
   first_empty_on (e ∷ es) = rw (empty_arm-on e, start-of e, first_empty_on es) (go (is_empty_arm e))
     where
-      go : (b : Bool) → (if b then some (f (start_of e)) else on_option f (first_empty_arm es)) ≡ on_option f (if b then some (start_of e) else first_empty_arm es)
+      go : (b : Bool) → (if b then some (f (start_of e)) otherwise on_option f (first_empty_arm es)) ≡ on_option f (if b then some (start_of e) otherwise first_empty_arm es)
       go true = refl
       go false = refl
 

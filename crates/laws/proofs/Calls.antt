@@ -8,7 +8,7 @@ use lib.Dec.{ltb}
 use lib.ListN.{length, take, drop}
 use lib.Seq.{take-append_seam}
 use borrow.Author.Tests.{ltb-false}
-use Rattle.basics.specs.Basics.{if◌then◌else◌, over}
+use Rattle.basics.specs.Basics.{if◌then◌otherwise◌, over}
 use Rattle.basics.proofs.Tests.{impossible, both_false}
 use Rattle.error.specs.Causes.{records_full, texts_full, output_full}
 use Rattle.error.specs.Lines.{Refusal, line_feeds, line_start, line_at, column_at, refusal_at}
@@ -24,7 +24,7 @@ use Rattle.laws.proofs.Demand3.{normal-texts-are-accepted, agreeing_trees_take-t
 
 room_of : (words bytes : ℕ) (g : GrammarDeclaration ℕ)
     → room_for words bytes (tree g)
-    ≡ (if ltb words (length (grammar_words g)) then stopped records_full 0 else if ltb bytes (length (grammar_texts g)) then stopped texts_full 0 else tree g)
+    ≡ (if ltb words (length (grammar_words g)) then stopped records_full 0 otherwise if ltb bytes (length (grammar_texts g)) then stopped texts_full 0 otherwise tree g)
 unfolding room_for grammar_words grammar_texts
 room_of words bytes g = refl
 
@@ -44,7 +44,7 @@ module _ (records texts output : List ℕ) where
       → write_by text records texts output g
       ≡ (if no_output (normal_text g)
       then record { answer = NormalAnswer.refused (refusal_at text output_full 0); records = over (grammar_words g) records; texts = over (grammar_texts g) texts; output = output }
-      else done g)
+      otherwise done g)
   unfolding line_feeds line_start line_at column_at refusal_at write_by grammar_words grammar_texts normal_text longest
   write_of text g = refl
 
@@ -89,19 +89,19 @@ module _ (records texts output : List ℕ) where
       by-room : (g : GrammarDeclaration ℕ) → reading text ≡ tree g → ltb (length records) (length (grammar_words g)) ≡ false → ltb (length texts) (length (grammar_texts g)) ≡ false
           → (c : Bool) → no_output (normal_text g) ≡ c
           → (if c then record { answer = NormalAnswer.refused (refusal_at text output_full 0); records = over (grammar_words g) records; texts = over (grammar_texts g) texts; output = output }
-          else done g).answer ≡ written n
+          otherwise done g).answer ≡ written n
           → Wrote text n
       by-room g q a b true h w = not_written _ w
       by-room g q a b false h w = record { grammar = g; reads = q; room = record { words = a; bytes = b; room = h }; size = same_size w }
 
       by_bytes : (g : GrammarDeclaration ℕ) → reading text ≡ tree g → ltb (length records) (length (grammar_words g)) ≡ false
           → (c : Bool) → ltb (length texts) (length (grammar_texts g)) ≡ c
-          → (normal_by text records texts output (if c then stopped texts_full 0 else tree g)).answer ≡ written n → Wrote text n
+          → (normal_by text records texts output (if c then stopped texts_full 0 otherwise tree g)).answer ≡ written n → Wrote text n
       by_bytes g q a true h w = not_written _ (sym (by-stopped text texts_full 0) ∙ w)
       by_bytes g q a false h w = by-room g q a h (no_output (normal_text g)) refl (sym (ap (λ o. o.answer) (by-tree text g ∙ write_of text g)) ∙ w)
 
       by-words : (g : GrammarDeclaration ℕ) → reading text ≡ tree g → (c : Bool) → ltb (length records) (length (grammar_words g)) ≡ c
-          → (normal_by text records texts output (if c then stopped records_full 0 else if ltb (length texts) (length (grammar_texts g)) then stopped texts_full 0 else tree g)).answer ≡ written n
+          → (normal_by text records texts output (if c then stopped records_full 0 otherwise if ltb (length texts) (length (grammar_texts g)) then stopped texts_full 0 otherwise tree g)).answer ≡ written n
           → Wrote text n
       by-words g q true h w = not_written _ (sym (by-stopped text records_full 0) ∙ w)
       by-words g q false h w = by_bytes g q h (ltb (length texts) (length (grammar_texts g))) refl w

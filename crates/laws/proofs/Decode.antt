@@ -5,7 +5,7 @@ use mathlib.Core.Bool.{◌||◌, not}
 use mathlib.Core.List.{List, [], ◌∷◌, ◌++◌, map}
 use mathlib.Core.Option.{Option, none, some}
 use lib.Dec.{eqb}
-use Rattle.basics.specs.Basics.{if◌then◌else◌, keep_if, first_element}
+use Rattle.basics.specs.Basics.{if◌then◌otherwise◌, keep_if, first_element}
 use Rattle.characters.specs.Spans.{Span, ◌upto◌}
 use Rattle.characters.specs.Utf8.{codes}
 use Rattle.tree.specs.Records.{Row, Branch, branch, Branches, []ᴮ, ◌∷ᴮ◌}
@@ -23,7 +23,7 @@ pick k f []ᴮ = []
 pick k f (b ∷ᴮ bs) = keep_if (eqb (kind_of b) k) (f b) (pick k f bs)
 
 unfoldable pub part_in : Branch → PropPart U
-part_in (branch r bs) = if eqb r.kind 6 then value tt (text_of r) else PropPart.name tt (text_of r)
+part_in (branch r bs) = if eqb r.kind 6 then value tt (text_of r) otherwise PropPart.name tt (text_of r)
 
 -- all branches, each by a function
 unfoldable pub all_in : {A : Type 0} → (Branch → A) → Branches → List A
@@ -37,17 +37,17 @@ unfoldable pub span_in : Branch → Span
 span_in (branch r bs) = r.value upto r.second
 
 unfoldable pub marker_in : Branch → ConflictMarker U
-marker_in (branch r bs) = record { start = tt; kind = if eqb r.kind 41 then ambiguity else precedence; name = text_of r }
+marker_in (branch r bs) = record { start = tt; kind = if eqb r.kind 41 then ambiguity otherwise precedence; name = text_of r }
 
 abbrev pub specialize_in : ℕ → SpecializeKind
-specialize_in v = if eqb v 1 then extend else specialize
+specialize_in v = if eqb v 1 then extend otherwise specialize
 
 abbrev pub repeat_in : ℕ → RepeatKind
-repeat_in v = if eqb v 0 then optional else if eqb v 1 then zero_or_more else one_or_more
+repeat_in v = if eqb v 0 then optional otherwise if eqb v 1 then zero_or_more otherwise one_or_more
 
 abbrev pub class_in : ℕ → CharClass
 class_in v =
-    if eqb v 0 then ascii_letter else if eqb v 1 then ascii_lowercase else if eqb v 2 then ascii_uppercase else if eqb v 3 then digit else if eqb v 4 then whitespace else eof
+    if eqb v 0 then ascii_letter otherwise if eqb v 1 then ascii_lowercase otherwise if eqb v 2 then ascii_uppercase otherwise if eqb v 3 then digit otherwise if eqb v 4 then whitespace otherwise eof
 
 -- the first and the second of a list of expressions
 abbrev pub first : List (Expression U) → Expression U
@@ -61,15 +61,15 @@ second (e ∷ es) = first es
 unfoldable pub expression_by : Row → List (Prop U) → List (Expression U) → Slots U → List Span → Expression U
 expression_by r ps es sl ss =
     if eqb r.kind 30 then Expression.name tt (text_of r) (expressions es)
-    else if eqb r.kind 31 then special tt (specialize_in r.value) ps (first es) (second es)
-    else if eqb r.kind 32 then inline tt (text_of r) ps (first es)
-    else if eqb r.kind 33 then choice tt (expressions es)
-    else if eqb r.kind 34 then (if eqb r.value 1 then empty tt else sequence tt sl)
-    else if eqb r.kind 35 then repeat tt (repeat_in r.value) (first es)
-    else if eqb r.kind 36 then Expression.literal tt (text_of r)
-    else if eqb r.kind 37 then set tt (eqb r.value 1) ss
-    else if eqb r.kind 39 then any tt
-    else class tt (class_in r.value)
+    otherwise if eqb r.kind 31 then special tt (specialize_in r.value) ps (first es) (second es)
+    otherwise if eqb r.kind 32 then inline tt (text_of r) ps (first es)
+    otherwise if eqb r.kind 33 then choice tt (expressions es)
+    otherwise if eqb r.kind 34 then (if eqb r.value 1 then empty tt otherwise sequence tt sl)
+    otherwise if eqb r.kind 35 then repeat tt (repeat_in r.value) (first es)
+    otherwise if eqb r.kind 36 then Expression.literal tt (text_of r)
+    otherwise if eqb r.kind 37 then set tt (eqb r.value 1) ss
+    otherwise if eqb r.kind 39 then any tt
+    otherwise class tt (class_in r.value)
 
 unfoldable mutual
   pub expression_in : Branch → Expression U
@@ -81,7 +81,7 @@ unfoldable mutual
 
   pub slots_in : List (ConflictMarker U) → Branches → Slots U
   slots_in ms []ᴮ = last ms
-  slots_in ms (b ∷ᴮ bs) = if is_expression (kind_of b) then slot ms (expression_in b) (slots_in [] bs) else slots_in (ms ++ marker_in b ∷ []) bs
+  slots_in ms (b ∷ᴮ bs) = if is_expression (kind_of b) then slot ms (expression_in b) (slots_in [] bs) otherwise slots_in (ms ++ marker_in b ∷ []) bs
 
 unfoldable pub name_in : Branch → Identifier U
 name_in (branch r bs) = record { start = tt; name = text_of r }
@@ -113,7 +113,7 @@ unfoldable pub node_in : Branch → NamedNode U
 node_in (branch r bs) = record { id = record { start = tt; name = text_of r }; props = pick 5 prop_in bs }
 
 abbrev pub prec_kind_in : ℕ → Option PrecKind
-prec_kind_in v = if eqb v 0 then none else if eqb v 1 then some left else if eqb v 2 then some right else some cut
+prec_kind_in v = if eqb v 0 then none otherwise if eqb v 1 then some left otherwise if eqb v 2 then some right otherwise some cut
 
 unfoldable pub prec_item_in : Branch → PrecItem U
 prec_item_in (branch r bs) = record { id = record { start = tt; name = text_of r }; kind = prec_kind_in r.value }
@@ -125,16 +125,16 @@ first_text (t ∷ ts) = t
 unfoldable pub declaration_in : Branch → Declaration U
 declaration_in (branch r bs) =
     if eqb r.kind 2 then top_rule (rule_in (branch r bs))
-    else if eqb r.kind 3 then rule (rule_in (branch r bs))
-    else if eqb r.kind 8 then tokens (record { start = tt; precedences = pick 9 token_prec_in bs; conflicts = pick 10 token_conflict_in bs; rules = pick 3 rule_in bs; literals = pick 11 literal_in bs })
-    else if eqb r.kind 12 then local_tokens (record { start = tt; precedences = pick 9 token_prec_in bs; rules = pick 3 rule_in bs; fallback = first_element (pick 13 node_in bs) })
-    else if eqb r.kind 14 then context (record { start = tt; id = text_of r; source = first_text (pick 15 source_in bs) })
-    else if eqb r.kind 16 then external_tokens (record { start = tt; id = text_of r; source = first_text (pick 15 source_in bs); tokens = pick 13 node_in bs; conflicts = pick 17 name_in bs })
-    else if eqb r.kind 18 then external_specializer (record { start = tt; kind = specialize_in r.value; token = first (expressions_in bs); id = text_of r; source = first_text (pick 15 source_in bs); tokens = pick 13 node_in bs })
-    else if eqb r.kind 19 then external_prop_source (record { start = tt; id = text_of r; source = first_text (pick 15 source_in bs) })
-    else if eqb r.kind 20 then precedences (record { start = tt; items = pick 21 prec_item_in bs })
-    else if eqb r.kind 22 then main_skip (first (expressions_in bs))
-    else scoped_skip (record { expression = first (expressions_in bs); top_rules = pick 2 rule_in bs; rules = pick 3 rule_in bs })
+    otherwise if eqb r.kind 3 then rule (rule_in (branch r bs))
+    otherwise if eqb r.kind 8 then tokens (record { start = tt; precedences = pick 9 token_prec_in bs; conflicts = pick 10 token_conflict_in bs; rules = pick 3 rule_in bs; literals = pick 11 literal_in bs })
+    otherwise if eqb r.kind 12 then local_tokens (record { start = tt; precedences = pick 9 token_prec_in bs; rules = pick 3 rule_in bs; fallback = first_element (pick 13 node_in bs) })
+    otherwise if eqb r.kind 14 then context (record { start = tt; id = text_of r; source = first_text (pick 15 source_in bs) })
+    otherwise if eqb r.kind 16 then external_tokens (record { start = tt; id = text_of r; source = first_text (pick 15 source_in bs); tokens = pick 13 node_in bs; conflicts = pick 17 name_in bs })
+    otherwise if eqb r.kind 18 then external_specializer (record { start = tt; kind = specialize_in r.value; token = first (expressions_in bs); id = text_of r; source = first_text (pick 15 source_in bs); tokens = pick 13 node_in bs })
+    otherwise if eqb r.kind 19 then external_prop_source (record { start = tt; id = text_of r; source = first_text (pick 15 source_in bs) })
+    otherwise if eqb r.kind 20 then precedences (record { start = tt; items = pick 21 prec_item_in bs })
+    otherwise if eqb r.kind 22 then main_skip (first (expressions_in bs))
+    otherwise scoped_skip (record { expression = first (expressions_in bs); top_rules = pick 2 rule_in bs; rules = pick 3 rule_in bs })
 
 abbrev pub first_name : List (Identifier U) → Identifier U
 first_name [] = record { start = tt; name = [] }

@@ -7,7 +7,7 @@ use mathlib.Core.Bool.{true, false, ◌||◌, not}
 use mathlib.Core.List.{List, [], ◌∷◌, ◌++◌, map, append-nil}
 use mathlib.Core.Option.{Option, none, some}
 use lib.Dec.{eqb}
-use Rattle.basics.specs.Basics.{if◌then◌else◌, first_element}
+use Rattle.basics.specs.Basics.{if◌then◌otherwise◌, first_element}
 use Rattle.basics.proofs.Tests.{clash}
 use Rattle.characters.proofs.Chars.{Scalars, codes_all}
 use Rattle.tree.specs.Records.{Branch, branch, Branches, []ᴮ, ◌∷ᴮ◌}
@@ -106,7 +106,7 @@ node-back : (x : NamedNode U) → GoodNode x → node_in (named_node_branch (on_
 unfolding node_in
 node-back x g = rw (codes_all g.name.word.scalars, props-only g.props)
 
-prec-value : (k : Option PrecKind) → (if eqb (prec_value k) 0 then none else if eqb (prec_value k) 1 then some left else if eqb (prec_value k) 2 then some right else some cut) ≡ k
+prec-value : (k : Option PrecKind) → (if eqb (prec_value k) 0 then none otherwise if eqb (prec_value k) 1 then some left otherwise if eqb (prec_value k) 2 then some right otherwise some cut) ≡ k
 prec-value none = refl
 prec-value (some left) = refl
 prec-value (some right) = refl

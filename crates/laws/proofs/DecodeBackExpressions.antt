@@ -7,7 +7,7 @@ use mathlib.Core.Bool.{Bool, true, false}
 use mathlib.Core.List.{List, [], ◌∷◌, ◌++◌, map, append-nil}
 use lib.Dec.{eqb}
 use lib.Seq.{append_snoc}
-use Rattle.basics.specs.Basics.{if◌then◌else◌}
+use Rattle.basics.specs.Basics.{if◌then◌otherwise◌}
 use Rattle.basics.proofs.Tests.{clash}
 use Rattle.characters.specs.Spans.{Span}
 use Rattle.characters.proofs.Chars.{Scalars, codes_all}
@@ -65,7 +65,7 @@ pub prop-back : (x : Prop U) → GoodProp x → prop_in (prop_branch (on_prop ze
 unfolding prop_in
 prop-back x g = rw (flag-back x.at, codes_all g.word.scalars, all_back (on_part zeroed) part_branch part_in part-back g.parts)
 
-marker-kind : (k : ConflictMarkerKind) → (if eqb (marker_number k) 41 then ambiguity else precedence) ≡ k
+marker-kind : (k : ConflictMarkerKind) → (if eqb (marker_number k) 41 then ambiguity otherwise precedence) ≡ k
 marker-kind ambiguity = refl
 marker-kind precedence = refl
 
@@ -99,7 +99,7 @@ pub pick-expression : {A : Type 0} (k : ℕ) (f : Branch → A) → is_expressio
 unfolding pick
 pick-expression k f h e bs = rw (ne_eqb (kind_of (expression_branch e)) k (λ q. clash (is_expression k) (ap is_expression (sym q) ∙ expression-kind e) h))
 
-pub specialize-back : (k : SpecializeKind) → (if eqb (specialize_value k) 1 then extend else specialize) ≡ k
+pub specialize-back : (k : SpecializeKind) → (if eqb (specialize_value k) 1 then extend otherwise specialize) ≡ k
 specialize-back extend = refl
 specialize-back specialize = refl
 

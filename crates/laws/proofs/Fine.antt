@@ -4,7 +4,7 @@ use Prim.Native.Nat.{ℕ}
 use mathlib.Core.Path.{◌≡◌}
 use mathlib.Core.Bool.{Bool}
 use mathlib.Core.List.{List, []}
-use mathlib.Core.Option.{none, some}
+use mathlib.Core.Option.{none}
 use Rattle.characters.specs.Spans.{Span}
 use Rattle.characters.proofs.Chars.{Scalars}
 use Rattle.lexer.specs.Tokens.{Kind, Tokens, token, eof, bad}

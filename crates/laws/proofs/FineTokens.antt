@@ -7,7 +7,7 @@ use mathlib.Core.Bool.{Bool, true, false, ◌&&◌}
 use mathlib.Core.List.{List, [], ◌∷◌, map}
 use mathlib.Core.Option.{Option, none, some}
 use lib.ListN.{take, drop}
-use Rattle.basics.specs.Basics.{if◌then◌else◌, letters, is, among, head}
+use Rattle.basics.specs.Basics.{if◌then◌otherwise◌, letters, is, among, head}
 use Rattle.characters.specs.declared.Char.{Char}
 use Rattle.characters.specs.declared.Char.TheVariants.{Scalar, Ill}
 use Rattle.characters.specs.Classes.{is_ecmascript_whitespace, is_line_terminator, is_punctuation, is_word}
@@ -16,7 +16,6 @@ use Rattle.characters.specs.Utf8.{first_char, on_char, codes_from, codes, is_sca
 use Rattle.characters.proofs.Chars.{Scalars, none_left, one_more}
 use Rattle.characters.proofs.Heads.{stands}
 use Rattle.lexer.specs.Tokens.{Kind, comment, body, never, Piece, blank, token, bad, comment_of, string_of, set_of, at_of, solid, piece, Tokens, lay, tokens_from, tokens}
-use Rattle.lexer.specs.Tokens as T
 use Rattle.lexer.specs.Escapes.{escape, Atom, escaped_by, atoms_from, decode_string}
 use Rattle.lexer.proofs.Back.{Words, no_more}
 use Rattle.lexer.proofs.Back as B
@@ -113,7 +112,7 @@ at-fine {cs} s (suc n) e = fine-piece (fine-at (record { some = some-taken cs n 
 name-fine : (c : ℕ) → is_scalar c ≡ true → is_word c ≡ true → {cs : List ℕ} → Scalars cs → FineKind (Kind.name (c ∷ take (run is_word cs) cs))
 name-fine c s w {cs} t = fine-name (record { some = not_empty; words = B.one_more w (run-words cs); scalars = one_more s (take-scalars (run is_word cs) t) })
 
-if_fine : (b : Bool) {p q : Piece} → (b ≡ true → FinePiece p) → (b ≡ false → FinePiece q) → FinePiece (if b then p else q)
+if_fine : (b : Bool) {p q : Piece} → (b ≡ true → FinePiece p) → (b ≡ false → FinePiece q) → FinePiece (if b then p otherwise q)
 if_fine true h k = h refl
 if_fine false h k = k refl
 

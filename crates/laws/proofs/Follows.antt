@@ -12,7 +12,7 @@ use Rattle.basics.specs.Basics.{first_element}
 use Rattle.basics.proofs.Tests.{clash}
 use Rattle.lexer.specs.Tokens.{Kind}
 use Rattle.tree.specs.Syntax.{ConflictMarker, ConflictMarkerKind, ambiguity, precedence, RepeatKind, optional, zero_or_more, one_or_more, Expression, special, inline, choice, sequence, empty, repeat, set, any, class, Expressions, []ᴱ, ◌∷ᴱ◌, Slots, last, slot}
-use Rattle.notation.specs.Parser.{kind, mark_in, is_mark, ends_sequence}
+use Rattle.notation.specs.Parser.{mark_in, is_mark, ends_sequence}
 use Rattle.notation.specs.Expressions.{repeat_mark, marker_mark, is_empty_arm}
 use Rattle.spelling.specs.NormalText.{each, mark, marker_sign, repeat_sign, bracket_if, is_choice, is_sequence, marker_tokens, expression_tokens, arguments_tokens, more_arguments, arms_tokens, more_arms, slots_tokens}
 use Rattle.laws.proofs.Fine.{U}

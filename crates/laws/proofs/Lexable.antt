@@ -7,7 +7,6 @@ use native.Mathlib.Omega.{arith}
 use mathlib.Core.Path.{◌≡◌, refl}
 use mathlib.Core.Bool.{Bool, true, false, ◌&&◌, ◌||◌}
 use mathlib.Core.List.{List, [], ◌∷◌, ◌++◌}
-use mathlib.Core.Option.{some}
 use Rattle.basics.specs.Basics.{letters, is}
 use Rattle.basics.proofs.Tests.{both_true}
 use Rattle.characters.specs.Classes.{is_punctuation, is_word}
@@ -19,9 +18,9 @@ use Rattle.characters.proofs.Chars.{Scalars, none_left, one_more}
 use Rattle.lexer.specs.Tokens.{Kind}
 use Rattle.lexer.proofs.Back.{Words, no_more, Written, a-name, an_at, a-string, a-set, a_not_set, a-mark}
 use Rattle.lexer.proofs.Back as B
-use Rattle.tree.specs.Syntax.{Identifier, PropPart, Prop, ConflictMarkerKind, ambiguity, precedence, ConflictMarker, SpecializeKind, extend, specialize, RepeatKind, optional, zero_or_more, one_or_more, CharClass, ascii_letter, ascii_lowercase, ascii_uppercase, digit, whitespace, eof, Expression, set, Expressions, Slots}
+use Rattle.tree.specs.Syntax.{Identifier, PropPart, Prop, ConflictMarkerKind, ambiguity, precedence, ConflictMarker, SpecializeKind, extend, specialize, RepeatKind, optional, zero_or_more, one_or_more, CharClass, ascii_letter, ascii_lowercase, ascii_uppercase, digit, whitespace, eof, Expression, Expressions, Slots}
 use Rattle.spelling.specs.Spelling.{quoted, spans_text, spell}
-use Rattle.spelling.specs.NormalText.{each, each_after, commas, bracketed, mark, at, word, string, identifier, marker_sign, repeat_sign, specialize_word, class_name, bracket_if, prop_name, part_tokens, value_tokens, prop_tokens, props_tokens, is_choice, is_sequence, marker_tokens, expression_tokens, arguments_tokens, more_arguments, arms_tokens, more_arms, slots_tokens}
+use Rattle.spelling.specs.NormalText.{each, each_after, commas, bracketed, mark, at, word, identifier, marker_sign, repeat_sign, specialize_word, class_name, bracket_if, prop_name, part_tokens, value_tokens, prop_tokens, props_tokens, is_choice, is_sequence, marker_tokens, expression_tokens, arguments_tokens, more_arguments, arms_tokens, more_arms, slots_tokens}
 use Rattle.spelling.proofs.Back.{quoted-body, spans-body, Ascii, no_ascii, more-ascii, spans-ascii}
 use Rattle.laws.proofs.Lists.{not_empty}
 use Rattle.laws.proofs.Fine.{U, Word}

@@ -7,7 +7,7 @@ use mathlib.Core.List.{List}
 use mathlib.Core.Option.{Option, none, some}
 use Rattle.lexer.specs.Tokens.{Kind}
 use Rattle.tree.specs.Syntax.{Identifier, SpecializeKind, extend, specialize, Expression, RuleDeclaration, TokenReference, TokenPrecDeclaration, TokenConflictDeclaration, LiteralDeclaration, NamedNode, ExternalPropDeclaration, PrecKind, left, right, cut, PrecItem, Declaration, GrammarDeclaration}
-use Rattle.notation.specs.Members.{Member, declaration, dialects, external_prop, detect_delim}
+use Rattle.notation.specs.Members.{Member, declaration, external_prop}
 use Rattle.notation.specs.Limits.{levels}
 use Rattle.spelling.specs.NormalText.{commas, mark, word, specialize_word, prec_tokens, from_tokens, expression_tokens, body_tokens, rule_tokens, top_rule_tokens, reference_tokens, token_prec_tokens, token_conflict_tokens, literal_tokens, named_node_tokens, fallback_tokens, prec_item_tokens, conflicts_tokens, external_set_tokens, declaration_tokens, external_prop_tokens}
 use Rattle.laws.proofs.Lists.{not_empty}

@@ -7,10 +7,10 @@ use mathlib.Core.Path.{◌≡◌, refl, ap, sym, ◌∙◌}
 use mathlib.Core.Bool.{Bool, true, false}
 use mathlib.Core.List.{List, [], ◌∷◌, ◌++◌}
 use mathlib.Core.Option.{Option, none, some}
-use Rattle.basics.specs.Basics.{if◌then◌else◌}
+use Rattle.basics.specs.Basics.{if◌then◌otherwise◌}
 use Rattle.basics.proofs.Tests.{clash}
 use Rattle.lexer.specs.Tokens.{Kind, Tokens, token, eof, bad}
-use Rattle.notation.specs.Parser.{Answer, read, refused, Parser, and_then, ◌>>=◌, ◌>>◌, pure, refuse, choose, here, refuse_here, kind_of, kind, arrive, next, name_in, at_in, string_in, is_mark, says, eat_if, eat, eat_name, eat_at, must, expect, expect_name, taken, expect_string, parse_identifier, size, turns, loop, separate, until_step, until, comma_or_not, nothing}
+use Rattle.notation.specs.Parser.{Answer, read, refused, Parser, and_then, ◌>>=◌, pure, refuse, choose, here, refuse_here, kind_of, kind, arrive, next, name_in, at_in, string_in, is_mark, says, eat_if, eat, eat_name, eat_at, must, expect, expect_name, taken, expect_string, parse_identifier, size, turns, loop, separate, until_step, until, comma_or_not, nothing}
 use Rattle.characters.proofs.Chars.{Scalars}
 use Rattle.laws.proofs.Fine.{U, Word, FineKind, fine-name, fine-at, fine-string, fine-set, fine-mark, Fine, fine-token}
 use Rattle.laws.proofs.Readable.{GoodName}
@@ -54,7 +54,7 @@ choose-meets true h k = h refl
 choose-meets false h k = k refl
 
 pub if_meets : {A : Type 0} (b : Bool) {p q : Parser U A} {ts : Tokens U} {Q : A → Tokens U → Type 0}
-    → (b ≡ true → Meets p ts Q) → (b ≡ false → Meets q ts Q) → Meets (if b then p else q) ts Q
+    → (b ≡ true → Meets p ts Q) → (b ≡ false → Meets q ts Q) → Meets (if b then p otherwise q) ts Q
 if_meets true h k = h refl
 if_meets false h k = k refl
 

@@ -5,7 +5,7 @@ use mathlib.Core.Path.{◌≡◌, refl, ap, sym, ◌∙◌}
 use mathlib.Core.Bool.{Bool, true, false, ◌&&◌}
 use mathlib.Core.List.{List, [], ◌∷◌, ◌++◌, append-nil}
 use mathlib.Core.Option.{Option, none, some}
-use Rattle.basics.specs.Basics.{if◌then◌else◌, spells, last_of, first_element, is_empty, picked, or_not}
+use Rattle.basics.specs.Basics.{if◌then◌otherwise◌, spells, last_of, first_element, is_empty, picked, or_not}
 use Rattle.basics.proofs.Lists.{picked-one}
 use Rattle.basics.proofs.Tests.{clash}
 use Rattle.error.specs.Causes.{no_top}
@@ -328,7 +328,7 @@ data GoodSkipMember : SkipMember U → Type 0 where
   skip-top : {x : RuleDeclaration U} → GoodRule Outer x → GoodSkipMember (SkipMember.top_rule x)
   skip-a-rule : {x : RuleDeclaration U} → GoodRule Outer x → GoodSkipMember (SkipMember.rule x)
 
-skip-either : (b : Bool) {r : RuleDeclaration U} → GoodRule Outer r → GoodSkipMember (if b then SkipMember.top_rule r else SkipMember.rule r)
+skip-either : (b : Bool) {r : RuleDeclaration U} → GoodRule Outer r → GoodSkipMember (if b then SkipMember.top_rule r otherwise SkipMember.rule r)
 skip-either true g = skip-top g
 skip-either false g = skip-a-rule g
 

@@ -1,6 +1,6 @@
 -- Each expression that reading gives is readable.
 -- Assumes nothing.
-use Prim.Native.Nat.{ℕ, zero, suc, ◌+◌, ◌<◌, ◌≤◌}
+use Prim.Native.Nat.{ℕ, zero, suc, ◌+◌, ◌≤◌}
 use native.Mathlib.Omega.{arith}
 use borrow.Author.Tests.{eqb-false}
 use mathlib.Core.Path.{◌≡◌, refl, ap, sym, ◌∙◌}
@@ -9,7 +9,7 @@ use mathlib.Core.List.{List, [], ◌∷◌, ◌++◌}
 use mathlib.Core.Option.{Option, none, some}
 use lib.Dec.{eqb}
 use lib.ListN.{length, length-append}
-use Rattle.basics.specs.Basics.{if◌then◌else◌, letters, is, same, spells}
+use Rattle.basics.specs.Basics.{if◌then◌otherwise◌, letters, is, same, spells}
 use Rattle.basics.proofs.Tests.{impossible, clash}
 use Rattle.characters.specs.Alphabetic.{spans as alphabetic, is_alphabetic}
 use Rattle.characters.specs.Classes.{is_word}
@@ -412,7 +412,7 @@ module _ (R : Grade) where
     arms_of [] every-none h = arms_none
     arms_of (e ∷ es) (every_more a q) h = go (is_empty_arm e) refl h (arms_of es q)
       where
-        go : (b : Bool) → is_empty_arm e ≡ b → (if b then some (start_of e) else first_empty_arm es) ≡ none → (first_empty_arm es ≡ none → Arms R (expressions es)) → Arms R (e ∷ᴱ expressions es)
+        go : (b : Bool) → is_empty_arm e ≡ b → (if b then some (start_of e) otherwise first_empty_arm es) ≡ none → (first_empty_arm es ≡ none → Arms R (expressions es)) → Arms R (e ∷ᴱ expressions es)
         go true z h k = impossible (cc)
         go false z h k = arms_more a z (k h)
 

@@ -14,8 +14,8 @@ use Rattle.basics.specs.Basics.{first_element}
 use Rattle.lexer.specs.Tokens.{Kind, Tokens, token, eof}
 use Rattle.lexer.specs.Escapes.{decode_string}
 use Rattle.tree.specs.Syntax.{Identifier}
-use Rattle.notation.specs.Parser.{read, Parser, and_then, ◌>>=◌, ◌>>◌, pure, choose, here, kind_of, kind, arrive, next, name_in, at_in, is_mark, says, eat_if, eat, eat_name, eat_at, must, expect, expect_name, taken, expect_string, parse_identifier, size, turns, loop, separate, until_step, until, comma, comma_or_not, nothing}
-use Rattle.spelling.specs.NormalText.{each, each_after, commas, mark}
+use Rattle.notation.specs.Parser.{read, Parser, and_then, ◌>>=◌, pure, choose, here, kind_of, kind, arrive, next, name_in, at_in, is_mark, says, eat_if, eat, eat_name, eat_at, must, expect, expect_name, taken, expect_string, parse_identifier, size, turns, loop, separate, until_step, until, comma, comma_or_not, nothing}
+use Rattle.spelling.specs.NormalText.{each, each_after, commas}
 use Rattle.laws.proofs.Fine.{U}
 use Rattle.laws.proofs.Every.{Every, every-none, every_more}
 

@@ -14,7 +14,7 @@ use Rattle.characters.specs.Spans.{Span}
 use Rattle.lexer.specs.Tokens.{Kind}
 use Rattle.tree.specs.Syntax.{Prop, ConflictMarker, ConflictMarkerKind, ambiguity, precedence, SpecializeKind, extend, specialize, RepeatKind, CharClass, ascii_letter, ascii_lowercase, ascii_uppercase, digit, whitespace, eof, Expression, special, inline, sequence, empty, set, any, class, Expressions, []ᴱ, ◌∷ᴱ◌, Slots, last, slot, expressions}
 use Rattle.notation.specs.Limits.{repeats}
-use Rattle.notation.specs.Parser.{Parser, kind, is_mark, eat, separate, until_step, comma}
+use Rattle.notation.specs.Parser.{Parser, is_mark, eat, separate, until_step, comma}
 use Rattle.notation.specs.Expressions.{Item as SeqItem, marker, expression, class_by, set_by, parse_set_expression, literal_of, inline_by, stacked, parse_repeat, slots, sequence_of, first_empty_arm, choice_by, choice_of, parse_braced_expression, parse_rule_named, parse_inline_rule_expression, parse_specialize_expression, parse_parenthesized_expression, parse_arguments, parse_named, inner_by, parse_expression_inner, parse_expression_suffix, item_by, parse_item, parse_expression_sequence, parse_arm, parse_expression_choice, choice_at}
 use Rattle.spelling.specs.Spelling.{quoted, spans_text}
 use Rattle.spelling.specs.NormalText.{each, mark, marker_sign, specialize_word, class_name, props_tokens, is_choice, marker_tokens, expression_tokens, arguments_tokens, more_arguments, more_arms, slots_tokens, body_tokens}
@@ -151,7 +151,7 @@ module _ (R : Grade) (below : Parser U (Expression U)) (below-reads : (e : Expre
 
   set_reads : (i : Bool) (ss : List Span) → ReadBack ss → (ks : List Kind) → Reads (parse_expression_inner below) (Kind.set i (spans_text ss) ∷ ks) (set tt i ss) ks
   unfolding parse_expression_inner inner_by parse_set_expression set_by
-  set_reads i ss g ks = bind_reads _ (here_reads _) (bind_reads _ (kind-reads _ refl) (rw (spans-back g.spelled, g.sound, set_by) (bind_reads _ (next-reads _ ks) (rw g.ordered (pure-reads _ ks)))))
+  set_reads i ss g ks = bind_reads _ (here_reads _) (bind_reads _ (kind-reads _ refl) (rw (spans-back g.spelled, g.sound, set_by) (bind_reads _ (next-reads _ ks) (rw (spans-back g.spelled, g.ordered) (pure-reads _ ks)))))
 
   any-reads : (ks : List Kind) → Reads (parse_expression_inner below) (Kind.name (letters "_") ∷ ks) (any tt) ks
   unfolding parse_expression_inner inner_by same

@@ -14,7 +14,7 @@ use Rattle.basics.proofs.Tests.{impossible, clash}
 use Rattle.basics.proofs.Lists.{picked-append}
 use Rattle.lexer.specs.Tokens.{Kind}
 use Rattle.tree.specs.Syntax.{Identifier, Expression, SpecializeKind, extend, specialize, RuleDeclaration, NamedNode, ContextDeclaration, ExternalTokenDeclaration, ExternalSpecializeDeclaration, ExternalPropSourceDeclaration, ExternalPropDeclaration, PrecDeclaration, ScopedSkipDeclaration, PrecKind, left, right, cut, PrecItem, Declaration, top_rule, rule, tokens, local_tokens, context, external_tokens, external_specializer, external_prop_source, precedences, main_skip, scoped_skip, GrammarDeclaration, grouped}
-use Rattle.notation.specs.Parser.{Parser, ◌>>=◌, ◌>>◌, pure, kind, is_end, is_mark, at_in, says, expect_string, until_step, nothing}
+use Rattle.notation.specs.Parser.{Parser, ◌>>=◌, pure, kind, is_end, is_mark, at_in, says, expect_string, until_step, nothing}
 use Rattle.notation.specs.Members.{Member, declaration, dialects, external_prop, detect_delim, declared, declared_dialects, declared_prop, detects}
 use Rattle.notation.specs.Declarations.{parse_source, parse_external_tokens, parse_external_specializer, parse_external_prop_source, parse_external_prop, external_by, parse_external_declaration, parse_prec_kind, parse_prec_item, parse_precedence, seen, parse_context_declaration, parse_skip_declaration, top_by, parse_directive, declaration_by, parse_declaration, has_top, grammar_of, parse}
 use Rattle.spelling.specs.Spelling.{quoted}
@@ -74,7 +74,7 @@ prec_item-longer x ks = go x.kind
 
 -- ------------------------------------------------------------------ one declaration
 
--- a member that is written: a declaration, a list of dialects that is not empty, an external prop, or `@detect_delim`
+-- a member that is written: a declaration, a list of dialects that is not empty, an external prop, or `@detectDelim`
 abbrev pub member_tokens : Member U → List Kind → List Kind
 member_tokens (declaration d) ks = declaration_tokens d ks
 member_tokens (dialects ns) ks = at "dialects" (mark "{" (commas identifier ns (mark "}" ks)))

@@ -8,10 +8,10 @@ use mathlib.Core.Bool.{Bool, true, false}
 use mathlib.Core.List.{List, [], ◌∷◌, ◌++◌}
 use mathlib.Core.Option.{Option, none, some}
 use lib.ListN.{length}
-use Rattle.basics.specs.Basics.{if◌then◌else◌, first_element}
+use Rattle.basics.specs.Basics.{if◌then◌otherwise◌, first_element}
 use Rattle.lexer.specs.Tokens.{Kind}
 use Rattle.tree.specs.Syntax.{PropPart, value, Prop}
-use Rattle.notation.specs.Parser.{Parser, ◌>>=◌, ◌>>◌, pure, choose, is_mark, eat, loop, comma}
+use Rattle.notation.specs.Parser.{Parser, ◌>>=◌, pure, choose, is_mark, eat, loop, comma}
 use Rattle.notation.specs.Expressions.{part_by, parse_part, prop_named, prop_by, parse_prop, parse_props}
 use Rattle.spelling.specs.NormalText.{each, each_after, mark, prop_name, part_tokens, value_tokens, prop_tokens, props_tokens}
 use Rattle.spelling.proofs.Back.{decode_back}
@@ -20,10 +20,10 @@ use Rattle.laws.proofs.Readable.{GoodProp}
 use Rattle.laws.proofs.ReadBack.{Reads, bind_reads, pure-reads, choose-true, choose-false, here_reads, kind-reads, next-reads, eat_yes, eat_no, expect-reads, parse_identifier-reads, Back, over, turn, loop-reads, Between, at-comma, at-close, commas-reads, comma-reads}
 use Rattle.laws.proofs.Every.{Every}
 
-pub if_true : {A : Type 0} {b : Bool} {p : Parser U A} (q : Parser U A) {ks ls : List Kind} {a : A} → b ≡ true → Reads p ks a ls → Reads (if b then p else q) ks a ls
+pub if_true : {A : Type 0} {b : Bool} {p : Parser U A} (q : Parser U A) {ks ls : List Kind} {a : A} → b ≡ true → Reads p ks a ls → Reads (if b then p otherwise q) ks a ls
 if_true q e h = rw e h
 
-pub if_false : {A : Type 0} {b : Bool} (p : Parser U A) {q : Parser U A} {ks ls : List Kind} {a : A} → b ≡ false → Reads q ks a ls → Reads (if b then p else q) ks a ls
+pub if_false : {A : Type 0} {b : Bool} (p : Parser U A) {q : Parser U A} {ks ls : List Kind} {a : A} → b ≡ false → Reads q ks a ls → Reads (if b then p otherwise q) ks a ls
 if_false p e h = rw e h
 
 -- ------------------------------------------------------------------ props

@@ -1,6 +1,6 @@
 -- Rules, references and members of blocks, written, are read back.
 -- Assumes nothing.
-use Prim.Native.Nat.{ℕ, ◌+◌, ◌<◌, ◌≤◌}
+use Prim.Native.Nat.{ℕ, ◌<◌, ◌≤◌}
 use native.Mathlib.Omega.{arith}
 use mathlib.Core.Path.{◌≡◌, refl, ap}
 use mathlib.Core.Bool.{false}
@@ -10,7 +10,7 @@ use lib.ListN.{length}
 use Rattle.basics.specs.Basics.{first_element, picked}
 use Rattle.lexer.specs.Tokens.{Kind}
 use Rattle.lexer.specs.Escapes.{decode_string}
-use Rattle.tree.specs.Syntax.{Identifier, Prop, Expression, RuleDeclaration, TokenReference, referred, TokenPrecDeclaration, TokenConflictDeclaration, LiteralDeclaration, NamedNode, left, right, start_of}
+use Rattle.tree.specs.Syntax.{Identifier, Prop, Expression, RuleDeclaration, TokenReference, referred, TokenPrecDeclaration, TokenConflictDeclaration, LiteralDeclaration, NamedNode, start_of}
 use Rattle.notation.specs.Limits.{levels}
 use Rattle.notation.specs.Parser.{Parser, ◌>>=◌, ◌>>◌, pure, choose, is_mark, eat, expect, parse_identifier, until, comma, comma_or_not}
 use Rattle.notation.specs.Expressions.{reference_of, parse_braced_expression, parse_rule_named, stacked, choice_at}

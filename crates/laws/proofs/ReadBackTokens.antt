@@ -12,7 +12,7 @@ use lib.Seq.{append_snoc}
 use Rattle.basics.specs.Basics.{same, first_element, is_empty, picked}
 use Rattle.basics.proofs.Lists.{picked-append}
 use Rattle.lexer.specs.Tokens.{Kind}
-use Rattle.tree.specs.Syntax.{RuleDeclaration, TokenReference, TokenPrecDeclaration, TokenConflictDeclaration, LiteralDeclaration, NamedNode, TokenDeclaration, LocalTokenDeclaration, left, right, Declaration}
+use Rattle.tree.specs.Syntax.{RuleDeclaration, TokenReference, TokenPrecDeclaration, TokenConflictDeclaration, LiteralDeclaration, NamedNode, TokenDeclaration, LocalTokenDeclaration, Declaration}
 use Rattle.notation.specs.Parser.{Parser, ◌>>◌, is_mark, eat, expect, until_step, until, separate, nothing}
 use Rattle.notation.specs.Members.{TokenMember, token_precedence, token_conflict, token_rule, token_literal, LocalMember, local_precedence, local_rule, local_fallback}
 use Rattle.notation.specs.Declarations.{token_member_by, parse_token_member, parse_tokens, parse_local_member, parse_local_tokens}

@@ -8,7 +8,7 @@ use mathlib.Core.Bool.{Bool, true, false, ◌&&◌, not, and_comm}
 use mathlib.Core.List.{List, [], ◌∷◌}
 use mathlib.Core.Option.{Option, none, some}
 use lib.Dec.{leb, ltb}
-use Rattle.basics.specs.Basics.{if◌then◌else◌}
+use Rattle.basics.specs.Basics.{if◌then◌otherwise◌}
 use Rattle.basics.proofs.Tests.{cases, impossible, both_false}
 use Rattle.error.specs.Causes.{overlapping_span}
 use Rattle.characters.specs.Spans.{Span, ◌upto◌}
@@ -48,7 +48,7 @@ unmet-after s (t ∷ ss) before a h =
 alone : (before ss : List Span) → fault_from before ss ≡ none → fault ss ≡ none
 alone before ss h = go (later before ss) (sym (fault-block before ss) ∙ h)
   where
-    go : (b : Bool) → (if b then some overlapping_span else fault ss) ≡ none → fault ss ≡ none
+    go : (b : Bool) → (if b then some overlapping_span otherwise fault ss) ≡ none → fault ss ≡ none
     go true e = impossible (cc)
     go false e = e
 
@@ -129,7 +129,7 @@ range_scalar a no_atoms z e = impossible (cc)
 range_scalar a (more-atoms s no_atoms) z e = impossible (cc)
 range_scalar a (more-atoms {a = b} s (more-atoms {a = c} t q)) z e = go (not (dash a) && dash b) e
   where
-    go : (x : Bool) → (if x then some c.char else none) ≡ some z → is_scalar z ≡ true
+    go : (x : Bool) → (if x then some c.char otherwise none) ≡ some z → is_scalar z ≡ true
     go true f = let w : c.char ≡ z = cc in ap is_scalar (sym w) ∙ t
     go false f = impossible (cc)
 

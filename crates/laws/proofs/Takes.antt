@@ -8,7 +8,7 @@ use mathlib.Core.Path.{◌≡◌, refl, sym, ◌∙◌}
 use mathlib.Core.Bool.{Bool, true, false}
 use mathlib.Core.List.{List, [], ◌∷◌, ◌++◌}
 use mathlib.Core.Option.{Option, none, some}
-use Rattle.basics.specs.Basics.{if◌then◌else◌, is}
+use Rattle.basics.specs.Basics.{if◌then◌otherwise◌, is}
 use Rattle.basics.proofs.Tests.{impossible, clash}
 use Rattle.lexer.specs.Tokens.{Kind, Tokens, token, eof, bad}
 use Rattle.notation.specs.Parser.{Answer, read, refused, Parser, and_then, ◌>>=◌, pure, refuse, choose, start_of, here, refuse_here, kind_of, kind, arrive, next, name_in, at_in, string_in, is_end, is_mark, says, eat_if, eat, eat_name, eat_at, must, expect, expect_name, taken, expect_string, parse_identifier, size, turns, loop, separate, until_step, until, comma, comma_or_not, nothing}
@@ -64,7 +64,7 @@ module _ {S : Type 0} where
   choose-takes true h g = h
   choose-takes false h g = g
 
-  pub if_takes : {A : Type 0} (b : Bool) {p q : Parser S A} {ts : Tokens S} {k : A → ℕ} → Takes p ts k → Takes q ts k → Takes (if b then p else q) ts k
+  pub if_takes : {A : Type 0} (b : Bool) {p q : Parser S A} {ts : Tokens S} {k : A → ℕ} → Takes p ts k → Takes q ts k → Takes (if b then p otherwise q) ts k
   if_takes true h g = h
   if_takes false h g = g
 

@@ -1,6 +1,6 @@
 -- The normal text of a good grammar, read: the tokens that were written.
 -- Assumes nothing.
-use Prim.Native.Nat.{ℕ, ◌+◌, ◌<◌}
+use Prim.Native.Nat.{ℕ, ◌<◌}
 use native.Mathlib.Omega.{arith}
 use mathlib.Core.Path.{◌≡◌, refl, ap}
 use mathlib.Core.Bool.{Bool, true, false}
@@ -16,7 +16,7 @@ use Rattle.lexer.specs.Tokens as T
 use Rattle.lexer.proofs.Back.{Written, a-name, an_at, a-string, a-set, a_not_set, a-mark, Laid, laid_none, laid_more, reads_none, reads_more, lex_back}
 use Rattle.lexer.proofs.Back as B
 use Rattle.tree.specs.Syntax.{Identifier, GrammarDeclaration}
-use Rattle.notation.specs.Members.{Member, declaration, dialects, external_prop}
+use Rattle.notation.specs.Members.{Member, declaration, external_prop}
 use Rattle.notation.specs.Parser.{is_end}
 use Rattle.spelling.specs.Spelling.{spell, spaced}
 use Rattle.spelling.specs.NormalText.{each, declaration_tokens, dialects_lines, external_prop_tokens, detect_lines, lines, lines_text}

@@ -10,7 +10,7 @@ use native.Mathlib.Omega.{arith}
 use lib.Dec.{eqb}
 use lib.ListN.{length, drop, length-append}
 use borrow.Author.Tests.{le-ltb, le-leb, eq-eqb, ne_eqb}
-use Rattle.basics.specs.Basics.{if◌then◌else◌, is, among, letters, head}
+use Rattle.basics.specs.Basics.{if◌then◌otherwise◌, is, among, letters, head}
 use Rattle.characters.specs.Places.{decode_at, past, chars_at, peek_at}
 use Rattle.characters.specs.Utf8.{codes, encode_all, width, encode, is_scalar}
 use Rattle.characters.specs.Promise.{Next, written, written_all, scalar_bytes}
@@ -29,7 +29,7 @@ use Rattle.lexer.specs.declared.escapes.Atom.TheVariants.{One, End}
 use Rattle.lexer.specs.Escapes as E
 use Rattle.lexer.specs.declared.escapes.Hex.TheVariants.{Code, Not}
 
-if_cases {ℓ κ} : {A : Type ℓ} (P : A → Type κ) (b : Bool) {x y : A} → (b ≡ true → P x) → (b ≡ false → P y) → P (if b then x else y)
+if_cases {ℓ κ} : {A : Type ℓ} (P : A → Type κ) (b : Bool) {x y : A} → (b ≡ true → P x) → (b ≡ false → P y) → P (if b then x otherwise y)
 if_cases P true f g = f refl
 if_cases P false f g = g refl
 
@@ -322,7 +322,7 @@ unfolding braced
 braced-fine [] = tt
 braced-fine (c ∷ cs) = by (is "{" c && not (is "}" (head cs)))
   where
-    by : (b : Bool) → Fine 2 (c ∷ cs) (if b then further (until_brace 0 cs) else none)
+    by : (b : Bool) → Fine 2 (c ∷ cs) (if b then further (until_brace 0 cs) otherwise none)
     by true = further-fine 1 c cs (until_brace 0 cs) (until-fine cs 0)
     by false = tt
 

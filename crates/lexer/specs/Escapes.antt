@@ -2,16 +2,16 @@
 -- Assumes nothing.
 use Rattle.std.specs.Prelude.{ℕ, zero, suc, ◌+◌, ◌-◌, ◌*◌, Bool, true, false, ◌&&◌, not, List, [], ◌∷◌, map, drop}
 use Rattle.std.proofs.Math.Option.{Option, none, some}
-use Rattle.basics.specs.Basics.{if◌then◌else◌, letters, is, among, head, within}
+use Rattle.basics.specs.Basics.{if◌then◌otherwise◌, letters, is, among, head, within}
 use Rattle.characters.specs.Utf8.{is_scalar}
 
 -- the value of a hexadecimal digit
 unfoldable pub hex_digit : ℕ → Option ℕ
 hex_digit c =
     if within 0x30 0x39 c then some (c - 0x30)
-    else if within 0x41 0x46 c then some (c - 0x37)
-    else if within 0x61 0x66 c then some (c - 0x57)
-    else none
+    otherwise if within 0x41 0x46 c then some (c - 0x37)
+    otherwise if within 0x61 0x66 c then some (c - 0x57)
+    otherwise none
 
 -- an escape's character, and how many of the characters after its letter it takes
 pub record Escape : Type 0 where
@@ -25,7 +25,7 @@ further (some e) = some (record { char = e.char; taken = suc e.taken })
 
 -- the value of digits, where it is a character's code
 unfoldable pub scalar : (value taken : ℕ) → Option Escape
-scalar v n = if is_scalar v then some (record { char = v; taken = n }) else none
+scalar v n = if is_scalar v then some (record { char = v; taken = n }) otherwise none
 
 -- exactly k digits; v is the value of those before: `decode_fixed_hex`
 unfoldable pub fixed : (k v : ℕ) → List ℕ → Option Escape
@@ -44,7 +44,7 @@ until_brace v (c ∷ cs) =
 
 -- `{`, one digit at least, `}`: `decode_hex_scalar` in its braces
 unfoldable pub braced : List ℕ → Option Escape
-braced cs = if is "{" (head cs) && not (is "}" (head (drop 1 cs))) then further (until_brace 0 (drop 1 cs)) else none
+braced cs = if is "{" (head cs) && not (is "}" (head (drop 1 cs))) then further (until_brace 0 (drop 1 cs)) otherwise none
 
 -- the one, or else the other
 abbrev pub or_else : Option Escape → Option Escape → Option Escape
@@ -59,15 +59,15 @@ or_letter e (some a) = a
 -- a letter that stands for a control character, or for itself
 unfoldable pub control : ℕ → ℕ
 control e =
-    if is "n" e then 0x0A else if is "t" e then 0x09 else if is "b" e then 0x08 else if is "r" e then 0x0D else if is "f" e then 0x0C
-    else if is "0" e then 0x00 else e
+    if is "n" e then 0x0A otherwise if is "t" e then 0x09 otherwise if is "b" e then 0x08 otherwise if is "r" e then 0x0D otherwise if is "f" e then 0x0C
+    otherwise if is "0" e then 0x00 otherwise e
 
 -- the letter e after a backslash, and cs after it
 unfoldable pub escape : ℕ → List ℕ → Escape
 escape e cs =
     if among (letters "uU") e then or_letter e (or_else (braced cs) (fixed 4 0 cs))
-    else if among (letters "xX") e then or_letter e (fixed 2 0 cs)
-    else record { char = control e; taken = 0 }
+    otherwise if among (letters "xX") e then or_letter e (fixed 2 0 cs)
+    otherwise record { char = control e; taken = 0 }
 
 -- a character of a body, and whether it was escaped
 pub record Atom : Type 0 where

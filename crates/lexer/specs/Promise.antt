@@ -2,7 +2,7 @@
 -- Assumes nothing.
 use Rattle.std.specs.Prelude.{ℕ, zero, suc, ◌+◌, ◌-◌, ◌*◌, ◌≤◌, ◌<◌, ◌≡◌, Bool, true, false, ◌&&◌, List, [], ◌∷◌, ◌++◌, leb, ltb, length, get_or, take, drop}
 use Rattle.std.proofs.Math.Option.{Option, none, some}
-use Rattle.basics.specs.Basics.{if◌then◌else◌, letters, is, among, spells, every}
+use Rattle.basics.specs.Basics.{if◌then◌otherwise◌, letters, is, among, spells, every}
 use Rattle.error.specs.Causes.{unexpected_character, unterminated_string, at_without_name, unterminated_set, reversed_span, overlapping_span}
 use Rattle.characters.specs.Utf8.{codes, encode_all, width, is_scalar}
 use Rattle.characters.specs.Places.{chars_at, peek_at, cut, past}
@@ -251,7 +251,7 @@ Fills s from ws B.Overlapping = fault (spans_at s from) ≡ some overlapping_spa
 -- one of the spans up to the first reversed one shares a code with one of those before
 unfoldable pub later : (before : List Span) → List Span → Bool
 later before [] = false
-later before (s ∷ ss) = if reversed s then false else if overlaps_one s before then true else later before ss
+later before (s ∷ ss) = if reversed s then false otherwise if overlaps_one s before then true otherwise later before ss
 
 -- what stops a set, by the answer for it
 abbrev pub stops : Ranges → Option ℕ
@@ -272,7 +272,7 @@ pub record Checks (ss : List Span) (r : Ranges) : Type 0 where
 
 -- the spans in ascending order laid over the words lent for them: where nothing stops the set, and they fit
 abbrev pub stored_by : Option ℕ → List Span → List ℕ → List ℕ
-stored_by none ss out = if leb (2 * length ss) (length out) then words_of (sorted ss) ++ drop (2 * length ss) out else out
+stored_by none ss out = if leb (2 * length ss) (length out) then words_of (sorted ss) ++ drop (2 * length ss) out otherwise out
 stored_by (some c) ss out = out
 
 -- the same, by what stops the set
@@ -285,7 +285,7 @@ FirstBlock s block n end = Fills s 0 block (B.Full n end)
 
 -- the first m words laid over others, where they fit
 unfoldable pub copied : ℕ → List ℕ → List ℕ → List ℕ
-copied m ws out = if leb m (length out) then take m ws ++ drop m out else out
+copied m ws out = if leb m (length out) then take m ws ++ drop m out otherwise out
 
 -- a set whose spans fit one block is done with; of any other nothing is stored
 abbrev pub Parses : (s out after block : List ℕ) → Filled → Type 0
@@ -304,12 +304,12 @@ is_plain w = every (λ c. ltb c 0x80) w
 unfoldable pub class_named : List ℕ → Class
 class_named t =
     if spells "asciiLetter" t then C.AsciiLetter
-    else if spells "asciiLowercase" t then C.AsciiLowercase
-    else if spells "asciiUppercase" t then C.AsciiUppercase
-    else if spells "digit" t then C.Digit
-    else if spells "whitespace" t then C.Whitespace
-    else if spells "eof" t then C.Eof
-    else C.Missing
+    otherwise if spells "asciiLowercase" t then C.AsciiLowercase
+    otherwise if spells "asciiUppercase" t then C.AsciiUppercase
+    otherwise if spells "digit" t then C.Digit
+    otherwise if spells "whitespace" t then C.Whitespace
+    otherwise if spells "eof" t then C.Eof
+    otherwise C.Missing
 
 -- a class by its value
 abbrev pub class_value : Class → Option ℕ

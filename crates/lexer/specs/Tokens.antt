@@ -2,7 +2,7 @@
 -- Assumes nothing.
 use Rattle.std.specs.Prelude.{ℕ, zero, suc, ◌+◌, ◌-◌, Bool, true, false, ◌&&◌, not, List, [], ◌∷◌, eqb, take, drop}
 use Rattle.std.proofs.Math.Option.{Option, none, some}
-use Rattle.basics.specs.Basics.{if◌then◌else◌, letters, is, among, head}
+use Rattle.basics.specs.Basics.{if◌then◌otherwise◌, letters, is, among, head}
 use Rattle.error.specs.Causes.{unexpected_character, unterminated_string, at_without_name, unterminated_set}
 use Rattle.characters.specs.Utf8.{width}
 use Rattle.characters.specs.Places.{run}
@@ -71,19 +71,19 @@ at_of cs (suc n) = token (at (take (suc n) cs)) (1 + suc n)
 unfoldable pub solid : ℕ → List ℕ → Piece
 solid c cs =
     if among (letters "\"'") c then string_of cs (body is_line_terminator c false cs)
-    else if is "@" c then at_of cs (run is_word cs)
-    else if among (letters "$!") c && is "[" (head cs) then set_of (is "!" c) (drop 1 cs) (body never 0x5D false (drop 1 cs))
-    else if is_punctuation c then token (mark c) 1
-    else if is_word c then token (name (c ∷ take (run is_word cs) cs)) (1 + run is_word cs)
-    else bad unexpected_character
+    otherwise if is "@" c then at_of cs (run is_word cs)
+    otherwise if among (letters "$!") c && is "[" (head cs) then set_of (is "!" c) (drop 1 cs) (body never 0x5D false (drop 1 cs))
+    otherwise if is_punctuation c then token (mark c) 1
+    otherwise if is_word c then token (name (c ∷ take (run is_word cs) cs)) (1 + run is_word cs)
+    otherwise bad unexpected_character
 
 -- white space, a comment to the end of its line, a comment in `/*` and `*/`, or a token
 unfoldable pub piece : ℕ → List ℕ → Piece
 piece c cs =
     if is_ecmascript_whitespace c then blank 1
-    else if is "/" c && is "/" (head cs) then blank (2 + run (λ d. not (is_line_terminator d)) (drop 1 cs))
-    else if is "/" c && is "*" (head cs) then comment_of (comment (drop 1 cs))
-    else solid c cs
+    otherwise if is "/" c && is "/" (head cs) then blank (2 + run (λ d. not (is_line_terminator d)) (drop 1 cs))
+    otherwise if is "/" c && is "*" (head cs) then comment_of (comment (drop 1 cs))
+    otherwise solid c cs
 
 -- ------------------------------------------------------------------ the tokens of a text
 

@@ -1,5 +1,6 @@
 // The tokens of a grammar file. A token's text is a part of the source: strings and sets are decoded where they are stored.
 #![tactic(auto)]
+
 pub mod escapes; // what a backslash stands for, and the value of a string
 pub mod sets; // the spans of a set, and what stops it
 pub mod words; // keywords and the names of classes

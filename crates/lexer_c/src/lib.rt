@@ -1,5 +1,6 @@
 // The lexer under plain names, for programs in Rust or C to link: compare/lexer does.
 #![tactic(auto)]
+
 ghost use Rattle.std.specs.Prelude.{◌≡◌, ◌+◌, ◌≤◌, length};
 ghost use Rattle.characters.specs.Utf8.{codes, encode_all};
 ghost use Rattle.characters.specs.Promise.{written_all};

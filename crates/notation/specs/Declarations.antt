@@ -2,7 +2,7 @@
 -- Assumes nothing.
 use Rattle.std.specs.Prelude.{ℕ, Bool, true, false, ◌&&◌, ◌||◌, not, List, [], ◌∷◌}
 use Rattle.std.proofs.Math.Option.{Option, none, some}
-use Rattle.basics.specs.Basics.{if◌then◌else◌, spells, same, concat, last_of, first_element, is_empty, kept, picked}
+use Rattle.basics.specs.Basics.{if◌then◌otherwise◌, spells, same, concat, last_of, first_element, is_empty, kept, picked}
 use Rattle.error.specs.Causes.{top_without_name, second_tokens, second_precedence, second_context, second_skip, no_top, bad_precedence, bad_conflict}
 use Rattle.lexer.specs.Escapes.{decode_string}
 use Rattle.tree.specs.Syntax.{Identifier, SpecializeKind, RuleDeclaration, TokenReference, TokenPrecDeclaration, TokenConflictDeclaration, LiteralDeclaration, NamedNode, TokenDeclaration, LocalTokenDeclaration, ExternalPropDeclaration, PrecKind, PrecItem, PrecDeclaration, Declaration, GrammarDeclaration, start_of, expressions, groups, grouped, has_kind}
@@ -80,8 +80,8 @@ module _ {S : Type 0} where
   token_member_by at (some t) = parse_literal t >>= λ x. pure (TokenMember.literal x)
   token_member_by at none =
       if says "precedence" at then parse_token_precedence >>= (λ x. pure (TokenMember.precedence x))
-      else if says "conflict" at then parse_token_conflict >>= (λ x. pure (TokenMember.conflict x))
-      else parse_rule >>= (λ x. pure (TokenMember.rule x))
+      otherwise if says "conflict" at then parse_token_conflict >>= (λ x. pure (TokenMember.conflict x))
+      otherwise parse_rule >>= (λ x. pure (TokenMember.rule x))
 
   -- a member of `@tokens`
   unfoldable pub parse_token_member : List (TokenMember S) → Parser S (TokenMember S)
@@ -192,11 +192,11 @@ module _ {S : Type 0} where
   unfoldable pub external_by : S → Option (List ℕ) → Parser S (Member S)
   external_by p t =
       if says "tokens" t then next >> declares (parse_external_tokens p)
-      else if says "prop" t then next >> (parse_external_prop p >>= λ x. pure (external_prop x))
-      else if says "extend" t then next >> declares (parse_external_specializer p SpecializeKind.extend)
-      else if says "specialize" t then next >> declares (parse_external_specializer p SpecializeKind.specialize)
-      else if says "propSource" t then next >> declares (parse_external_prop_source p)
-      else unexpected
+      otherwise if says "prop" t then next >> (parse_external_prop p >>= λ x. pure (external_prop x))
+      otherwise if says "extend" t then next >> declares (parse_external_specializer p SpecializeKind.extend)
+      otherwise if says "specialize" t then next >> declares (parse_external_specializer p SpecializeKind.specialize)
+      otherwise if says "propSource" t then next >> declares (parse_external_prop_source p)
+      otherwise unexpected
 
   -- after `@external`
   unfoldable pub parse_external_declaration : S → Parser S (Member S)
@@ -245,7 +245,7 @@ module _ {S : Type 0} where
   parse_skip_member before = do
     is_top ← eat_at "top"
     r ← parse_rule
-    pure (if is_top then SkipMember.top_rule r else SkipMember.rule r)
+    pure (if is_top then SkipMember.top_rule r otherwise SkipMember.rule r)
 
   -- after `@skip`: a second main one is refused once the token behind its braces is read
   unfoldable pub parse_skip_declaration : S → List (Member S) → Parser S (Declaration S)
@@ -269,15 +269,15 @@ module _ {S : Type 0} where
   unfoldable pub parse_directive : S → List (Member S) → List ℕ → Parser S (Member S)
   parse_directive p before t =
       if spells "top" t then next >> declares (kind >>= λ k. top_by (name_in k))
-      else if spells "tokens" t then choose (seen 8 before) (refuse_here second_tokens) (parse_tokens >>= λ x. pure (declaration (Declaration.tokens x)))
-      else if spells "local" t then next >> (expect_name "tokens" >> (parse_local_tokens p >>= λ x. pure (declaration (Declaration.local_tokens x))))
-      else if spells "context" t then next >> declares (parse_context_declaration p before)
-      else if spells "external" t then next >> parse_external_declaration p
-      else if spells "dialects" t then next >> (names >>= λ ns. pure (dialects ns))
-      else if spells "precedence" t then choose (seen 20 before) (refuse_here second_precedence) (parse_precedence >>= λ x. pure (declaration (Declaration.precedences x)))
-      else if spells "detectDelim" t then next >> pure detect_delim
-      else if spells "skip" t then next >> declares (parse_skip_declaration p before)
-      else unexpected
+      otherwise if spells "tokens" t then choose (seen 8 before) (refuse_here second_tokens) (parse_tokens >>= λ x. pure (declaration (Declaration.tokens x)))
+      otherwise if spells "local" t then next >> (expect_name "tokens" >> (parse_local_tokens p >>= λ x. pure (declaration (Declaration.local_tokens x))))
+      otherwise if spells "context" t then next >> declares (parse_context_declaration p before)
+      otherwise if spells "external" t then next >> parse_external_declaration p
+      otherwise if spells "dialects" t then next >> (names >>= λ ns. pure (dialects ns))
+      otherwise if spells "precedence" t then choose (seen 20 before) (refuse_here second_precedence) (parse_precedence >>= λ x. pure (declaration (Declaration.precedences x)))
+      otherwise if spells "detectDelim" t then next >> pure detect_delim
+      otherwise if spells "skip" t then next >> declares (parse_skip_declaration p before)
+      otherwise unexpected
 
   -- by the keyword that it begins with; without one it is a rule
   unfoldable pub declaration_by : S → List (Member S) → Option (List ℕ) → Parser S (Member S)

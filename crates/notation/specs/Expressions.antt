@@ -2,7 +2,7 @@
 -- Assumes nothing.
 use Rattle.std.specs.Prelude.{ℕ, zero, suc, ◌+◌, Bool, true, false, ◌&&◌, ◌||◌, List, [], ◌∷◌, ◌++◌, eqb, length}
 use Rattle.std.proofs.Math.Option.{Option, none, some}
-use Rattle.basics.specs.Basics.{if◌then◌else◌, letters, is, spells}
+use Rattle.basics.specs.Basics.{if◌then◌otherwise◌, letters, is, spells}
 use Rattle.error.specs.Causes.{too_deep, inline_parameters, one_part, empty_arm}
 use Rattle.characters.specs.Spans.{Span}
 use Rattle.lexer.specs.Tokens.{Kind}
@@ -17,16 +17,16 @@ use Rattle.notation.specs.Parser.{Parser, ◌>>=◌, ◌>>◌, pure, refuse, cho
 abbrev pub repeat_mark : ℕ → Option RepeatKind
 repeat_mark c =
     if is "*" c then some RepeatKind.zero_or_more
-    else if is "?" c then some RepeatKind.optional
-    else if is "+" c then some RepeatKind.one_or_more
-    else none
+    otherwise if is "?" c then some RepeatKind.optional
+    otherwise if is "+" c then some RepeatKind.one_or_more
+    otherwise none
 
 -- the mark of a marker
 abbrev pub marker_mark : ℕ → Option ConflictMarkerKind
 marker_mark c =
     if is "~" c then some ConflictMarkerKind.ambiguity
-    else if is "!" c then some ConflictMarkerKind.precedence
-    else none
+    otherwise if is "!" c then some ConflictMarkerKind.precedence
+    otherwise none
 
 -- what a sequence is made of
 pub data Item (S : Type 0) : Type 0 where
@@ -42,12 +42,12 @@ module _ {S : Type 0} where
   part_by p (some (Kind.name t)) = next >> pure (some (PropPart.value p t))
   part_by p (some (Kind.mark c)) =
       if is "." c then next >> pure (some (PropPart.value p (letters ".")))
-      else if is "{" c then (do
+      otherwise if is "{" c then (do
         next
         n ← parse_identifier
         expect "}"
         pure (some (PropPart.name p n.name)))
-      else pure none
+      otherwise pure none
   part_by p (some (Kind.at t)) = pure none
   part_by p (some (Kind.set i t)) = pure none
   part_by p none = pure none
@@ -203,7 +203,7 @@ module _ {S : Type 0} where
   -- the start of the first such arm
   unfoldable pub first_empty_arm : List (Expression S) → Option S
   first_empty_arm [] = none
-  first_empty_arm (e ∷ es) = if is_empty_arm e then some (start_of e) else first_empty_arm es
+  first_empty_arm (e ∷ es) = if is_empty_arm e then some (start_of e) otherwise first_empty_arm es
 
   -- the choice, unless an arm is empty
   unfoldable pub choice_by : S → List (Expression S) → Option S → Parser S (Expression S)
@@ -273,11 +273,11 @@ module _ {S : Type 0} where
     unfoldable pub parse_named : S → List ℕ → Option Kind → Parser S (Expression S)
     parse_named p t k =
         if is_mark "[" k || is_mark "{" k then parse_inline_rule_expression p t
-        else if spells "std" t && is_mark "." k then (do
+        otherwise if spells "std" t && is_mark "." k then (do
           next
           c ← kind
           std_class_by p (at_in c) (name_in c))
-        else (do
+        otherwise (do
           es ← parse_arguments
           pure (Expression.name p t (expressions es)))
 
@@ -285,17 +285,17 @@ module _ {S : Type 0} where
     unfoldable pub inner_by : S → Option Kind → Parser S (Expression S)
     inner_by p (some (Kind.mark c)) =
         if is "(" c then next >> parse_parenthesized_expression p
-        else if is "[" c then parse_inline_rule_expression p (letters "_anon")
-        else unexpected
+        otherwise if is "[" c then parse_inline_rule_expression p (letters "_anon")
+        otherwise unexpected
     inner_by p (some (Kind.string t)) = next >> pure (literal_of p (decode_string t))
     inner_by p (some (Kind.set inverted body)) = parse_set_expression p inverted body
     inner_by p (some (Kind.at t)) =
         if spells "specialize" t then parse_specialize_expression p SpecializeKind.specialize
-        else if spells "extend" t then parse_specialize_expression p SpecializeKind.extend
-        else class_by p (from_name t)
+        otherwise if spells "extend" t then parse_specialize_expression p SpecializeKind.extend
+        otherwise class_by p (from_name t)
     inner_by p (some (Kind.name t)) =
         if spells "_" t then next >> pure (Expression.any p)
-        else (do
+        otherwise (do
           next
           k ← kind
           parse_named p t k)

@@ -122,7 +122,7 @@ module _ {S : Type 0} where
   declared_prop (external_prop x) = some x
   declared_prop detect_delim = none
 
-  -- something, if the member is `@detect_delim`
+  -- something, if the member is `@detectDelim`
   abbrev pub detects : Member S → Option (Unit {0})
   detects (declaration d) = none
   detects (dialects ns) = none

@@ -1,7 +1,7 @@
 -- What a text added to an output makes of it.
 -- Assumes nothing.
 use Rattle.std.specs.Prelude.{ℕ, ◌+◌, ◌/◌, ◌%◌, ◌≤◌, ◌≡◌, List, [], ◌∷◌, ◌++◌, leb, length, take, drop}
-use Rattle.basics.specs.Basics.{if◌then◌else◌}
+use Rattle.basics.specs.Basics.{if◌then◌otherwise◌}
 use Rattle.spelling.specs.Spelling.{hex_digit}
 
 -- A text goes to an output behind its first `at` bytes, and n counts to the text's end. Where that is within the output, the text stands
@@ -19,4 +19,4 @@ pub record Wrote (text old new : List ℕ) (n : ℕ) : Type 0 where
 
 -- the hexadecimal digit of n at a power of 16, upper case; none where n is below that power
 unfoldable pub digit_at : (n unit : ℕ) → List ℕ
-digit_at n unit = if leb unit n then hex_digit (n / unit % 16) ∷ [] else []
+digit_at n unit = if leb unit n then hex_digit (n / unit % 16) ∷ [] otherwise []

@@ -3,6 +3,7 @@
 // Each writes where there is room and counts in any case, so that the caller learns what length would do. The writers of bytes are lent the
 // whole of their part and add to it behind the n bytes that stand there; those at the end write at the front of what they are lent.
 #![tactic(auto)]
+
 ghost use Rattle.std.specs.Prelude.{◌≡◌, ◌||◌, [], ◌∷◌, ◌+◌, ◌-◌, ◌*◌, ◌≤◌, ◌<◌, ◌^◌, length, take, drop};
 ghost use Rattle.basics.specs.Basics.{is};
 ghost use Rattle.characters.specs.Spans.{◌upto◌};

@@ -5,7 +5,7 @@ use mathlib.Core.Path.{◌≡◌, refl, ◌∙◌, ap}
 use mathlib.Core.Bool.{Bool, true, false}
 use mathlib.Core.List.{List}
 use mathlib.Core.Option.{Option, none, some}
-use Rattle.basics.specs.Basics.{if◌then◌else◌, spells}
+use Rattle.basics.specs.Basics.{if◌then◌otherwise◌, spells}
 use Rattle.characters.specs.Utf8.{encode_all, codes}
 use Rattle.lexer.specs.Promise.{class_named, class_value}
 use Rattle.lexer.specs.declared.words.Class.{Class}
@@ -15,7 +15,7 @@ use Rattle.tree.specs.Syntax.{CharClass}
 use Rattle.tree.specs.CharClasses.{from_name, class_value as tree_value}
 use Rattle.parser.specs.Classes.{class_of}
 
-class_if : (b : Bool) (c d : Class) {l r : Option CharClass} → class_of c ≡ l → class_of d ≡ r → class_of (if b then c else d) ≡ (if b then l else r)
+class_if : (b : Bool) (c d : Class) {l r : Option CharClass} → class_of c ≡ l → class_of d ≡ r → class_of (if b then c otherwise d) ≡ (if b then l otherwise r)
 class_if true c d e f = e
 class_if false c d e f = f
 

@@ -9,7 +9,7 @@ use mathlib.Core.Option.{Option, none, some}
 use borrow.Author.Tests.{eq-eqb, ne_eqb}
 use lib.Dec.{eqb}
 use lib.ListN.{length}
-use Rattle.basics.specs.Basics.{letters, is, among, same, spells}
+use Rattle.basics.specs.Basics.{letters, among, same, spells}
 use Rattle.error.specs.Causes.{too_deep}
 use Rattle.error.specs.Promise.{cause_number}
 use Rattle.error.specs.declared.Cause.{Cause}
@@ -46,7 +46,7 @@ use Rattle.parser.specs.declared.parts.Shape.TheVariants.{Literal, Other}
 use Rattle.tokens.proofs.Stream.{start-of, mark-of}
 use Rattle.parser.proofs.Onward.{placed_in, onward_then, onward-least, next-onward, expect-onward}
 use Rattle.parser.proofs.Lists.{lays-then, lays-between, Listing, listing-turn, listing-over, listing-refused}
-use Rattle.parser.proofs.Ready.{Held, Got, Short, cut-length, name-got, stored-text, lays-leaf, arrived-at, arrived_not, taken_at, nodes-leaf}
+use Rattle.parser.proofs.Ready.{Held, Got, Short, cut-length, name-got, stored-text, lays-leaf, arrived-at, arrived_not, identifier_at, nodes-leaf}
 
 -- ------------------------------------------------------------------ names
 
@@ -57,7 +57,7 @@ name-given k s t {u} {a} {e} l r i q d st =
     let m = name-got s r l q i in
     record {
       value = record { start = start_in t; name = part_of s a e };
-      gives = taken_at _ s r i.takes q;
+      gives = identifier_at s _ r i q;
       onward = m.1.onward;
       lays = rw (nodes-leaf (named k (start_in t) (part_of s a e)), m.0.part.bytes, ← d) (lays-leaf st m.1.onward m.1.past);
     }
@@ -241,7 +241,7 @@ module _ (s : List ℕ) (t : Current) {n x a e : ℕ} {u v : Current} (y : Ready
       let on : Onward s t v 1 = onward-least 1 (onward_then d f.onward) (omega arith) in
       record {
         mark = record { start = start_in t; kind = m; name = part_of s a e };
-        gives = marker-read (start_in t) m (stream s t) (arrived-at s r h.0 q) (taken_at _ s g i.takes j);
+        gives = marker-read (start_in t) m (stream s t) (arrived-at s r h.0 q) (identifier_at s _ g i j);
         onward = on;
         lays = rw (nodes-leaf (named (marker_number m) (start_in t) (part_of s a e)), marker-named.1.part.bytes, ← w, ← z) (lays-leaf st on (omega arith));
       }

@@ -1,6 +1,6 @@
 -- What an expression without its repeats comes to, by its first token.
 -- Assumes nothing.
-use Prim.Native.Nat.{ℕ, ◌<◌}
+use Prim.Native.Nat.{ℕ}
 use native.Mathlib.Omega.{arith}
 use mathlib.Core.Path.{◌≡◌, refl, sym, ◌∙◌}
 use mathlib.Core.Bool.{Bool, true, false}
@@ -19,13 +19,12 @@ use Rattle.lexer.specs.Promise.{part_of}
 use Rattle.lexer.specs.Promise as L
 use Rattle.lexer.proofs.Spelled.{spells-codes}
 use Rattle.tree.specs.Syntax.{Expression, Identifier, Prop, SpecializeKind, RuleDeclaration, expressions}
-use Rattle.notation.specs.Parser.{Answer, read, refused, Parser, and_then, ◌>>=◌, ◌>>◌, pure, refuse, choose, start_of, here, refuse_here, kind_of, kind, next, eat, until, comma, parse_identifier}
+use Rattle.notation.specs.Parser.{Answer, read, refused, Parser, and_then, ◌>>=◌, pure, refuse, choose, start_of, here, refuse_here, kind_of, kind, next, eat, until, comma, parse_identifier}
 use Rattle.notation.specs.Expressions.{inline_by, parse_braced_expression, parse_rule_named, parse_inline_rule_expression, parse_specialize_expression, parse_parenthesized_expression, parse_arguments, parse_named, inner_by, parse_expression_inner, parse_props}
 use Rattle.tokens.specs.Promise.{stream, start_in, mark_of, name_of, at_of}
 use Rattle.parser.specs.Shapes.{IsToken, std_class, parse_any, parse_literal, parse_set, class_part, is_std, named, name_arguments, arguments_list, Head, parse_params, parse_head}
 use Rattle.tokens.specs.declared.Current.{Current}
 use Rattle.tokens.specs.declared.Current.TheVariants.{Token, End}
-use Rattle.tokens.specs.declared.Part.{Part}
 use Rattle.tokens.specs.declared.Part.TheVariants.{From}
 use Rattle.tokens.proofs.Stream.{start-of, mark-of}
 

@@ -18,3 +18,4 @@ pub mod Marks
 pub mod Itemizing
 pub mod InnerLaws
 pub mod Told
+pub mod Falls

@@ -19,7 +19,6 @@ use Rattle.lexer.specs.Promise.{part_of, class_named, ReadsAtom, atoms_at, Check
 use Rattle.lexer.specs.Promise as L
 use Rattle.lexer.specs.declared.Kind.TheVariants as K
 use Rattle.lexer.specs.declared.words.Class.{Class}
-use Rattle.lexer.specs.declared.words.Class.TheVariants as C
 use Rattle.lexer.specs.declared.escapes.Atom.{Atom}
 use Rattle.lexer.specs.declared.escapes.Atom.TheVariants as A
 use Rattle.lexer.specs.declared.sets.Ranges.{Ranges}
@@ -39,7 +38,7 @@ use Rattle.parser.specs.Shapes.{IsToken, IsSet, Shown, Yields, Expresses, named_
 use Rattle.tokens.specs.declared.Current.{Current}
 use Rattle.tokens.specs.declared.Current.TheVariants.{Token, End}
 use Rattle.tokens.specs.declared.Arrived.{Arrived}
-use Rattle.tokens.specs.declared.Arrived.TheVariants.{At, Refused}
+use Rattle.tokens.specs.declared.Arrived.TheVariants.{At}
 use Rattle.tokens.specs.declared.Part.TheVariants.{From, Nothing}
 use Rattle.parser.specs.declared.parts.ClassNamed.{ClassNamed}
 use Rattle.parser.specs.declared.parts.ClassNamed.TheVariants as N

@@ -38,7 +38,7 @@ use Rattle.tokens.specs.declared.Taken.TheVariants as G
 use Rattle.tokens.specs.declared.Part.TheVariants.{From, Nothing}
 use Rattle.tokens.proofs.Stream.{start-of, name-of, at-of}
 use Rattle.parser.proofs.Onward.{onward_then, onward-least, mark-token, next-onward, expect-onward}
-use Rattle.parser.proofs.Ready.{Held, Got, name-held, name_in_lem, at_in_lem, string-held, next-got, got-less, stored-text, lays-leaf, lays_parent, nodes-leaf, nodes-over, no_part, name-got, arrived-at, taken_at}
+use Rattle.parser.proofs.Ready.{Held, Got, name-held, name_in_lem, at_in_lem, string-held, next-got, got-less, stored-text, lays-leaf, lays_parent, nodes-leaf, nodes-over, no_part, name-got, arrived-at, identifier_at}
 
 -- ------------------------------------------------------------------ a part
 
@@ -206,7 +206,7 @@ module _ (s : List ℕ) where
         let on : Onward s t w 1 = onward-least 1 (onward_then d (onward_then m.onward x)) (omega arith) in
         record {
           value = PropPart.name (start_in t) (part_of s a e);
-          gives = braced-read t c (arrived-at s r h.0 q) (taken_at _ s g i.takes j) (arrived-at s f (o.expects "}" refl) z);
+          gives = braced-read t c (arrived-at s r h.0 q) (identifier_at s _ g i j) (arrived-at s f (o.expects "}" refl) z);
           onward = on;
           lays = rw (nodes-leaf (named 7 (start_in t) (part_of s a e)), braced-name.1.part.bytes, ← b) (lays-leaf st on (omega arith));
         }

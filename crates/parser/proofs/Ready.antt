@@ -18,7 +18,7 @@ use Rattle.error.specs.Promise.{cause_number}
 use Rattle.tree.specs.Records.{Row, Branch, branch, Branches, []ᴮ, ◌∷ᴮ◌, count, Node, nodes, nodes_all, texts_of}
 use Rattle.tree.specs.Stored.{each}
 use Rattle.tree.proofs.Encoded.{texts-append}
-use Rattle.notation.specs.Parser.{Answer, read, refused, Parser, next}
+use Rattle.notation.specs.Parser.{Answer, read, refused, Parser, next, parse_identifier}
 use Rattle.tokens.specs.Promise.{stream, start_in, end_in, name_of, at_of, string_of, arrival, LiesIn, Lies, Identifies, TakesString, taken_by}
 use Rattle.parser.specs.Storing.{Lent, lent, Stores, flat, nodes_of}
 use Rattle.parser.specs.Steps.{placed, Holds, Onward, Lays, Ready, Lists}
@@ -29,7 +29,6 @@ use Rattle.tokens.specs.declared.Arrived.{Arrived}
 use Rattle.tokens.specs.declared.Arrived.TheVariants.{At, Refused}
 use Rattle.tokens.specs.declared.Taken.{Taken}
 use Rattle.tokens.specs.declared.Taken.TheVariants as G
-use Rattle.tokens.specs.declared.Part.{Part}
 use Rattle.tokens.specs.declared.Part.TheVariants.{From, Nothing}
 use Rattle.tree.proofs.Back.{nodes-some}
 use Rattle.parser.proofs.Stored.{stores-then}
@@ -216,6 +215,14 @@ module _ {A : Type 0} (f : List ℕ → A) (s : List ℕ) {D : Answer ℕ A} (r 
 
   pub taken_not : {c : Cause} {p : ℕ} → r ≡ G.Refused c p → D ≡ refused (cause_number c) p
   taken_not q = rw q at h
+
+-- a name that is taken, and one that is refused
+module _ (s : List ℕ) (t : Current) (r : Taken) (i : Identifies s t r) where
+  pub identifier_at : {a e : ℕ} {u : Current} → r ≡ G.Got a e u → parse_identifier (stream s t) ≡ read (record { start = start_in t; name = part_of s a e }) (stream s u)
+  identifier_at q = taken_at (λ n. record { start = start_in t; name = n }) s r i.takes q
+
+  pub identifier_not : {c : Cause} {p : ℕ} → r ≡ G.Refused c p → parse_identifier (stream s t) ≡ refused (cause_number c) p
+  identifier_not q = taken_not (λ n. record { start = start_in t; name = n }) s r i.takes q
 
 -- ------------------------------------------------------------------ what storing a node asks
 

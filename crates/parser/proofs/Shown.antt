@@ -7,7 +7,7 @@ use mathlib.Core.Bool.{Bool, true, false}
 use mathlib.Core.List.{List, [], ◌∷◌, ◌++◌, append_assoc, append-nil}
 use mathlib.Core.Option.{none, some}
 use lib.ListN.{length, length-append}
-use Rattle.basics.specs.Basics.{if◌then◌else◌}
+use Rattle.basics.specs.Basics.{if◌then◌otherwise◌}
 use Rattle.characters.specs.Utf8.{encode_all}
 use Rattle.lexer.specs.Tokens.{Tokens}
 use Rattle.tree.specs.Records.{[]ᴮ, ◌∷ᴮ◌, count, nodes, nodes_all}
@@ -168,11 +168,11 @@ pub empty_snoc : (es : List (Expression ℕ)) (e : Expression ℕ) (m : Empty) (
 unfolding first_empty_arm
 empty_snoc [] e m q shape h b st = by m h
   where
-    one : (x : Bool) → (if x then some q else none) ≡ empty_of (if x then M.At q else M.None)
+    one : (x : Bool) → (if x then some q otherwise none) ≡ empty_of (if x then M.At q otherwise M.None)
     one true = refl
     one false = refl
 
-    by : (m : Empty) → none ≡ empty_of m → (if is_empty_arm e then some (start_of e) else none) ≡ empty_of (empty_by m q shape)
+    by : (m : Empty) → none ≡ empty_of m → (if is_empty_arm e then some (start_of e) otherwise none) ≡ empty_of (empty_by m q shape)
     by (M.At p) h = cc
     by M.None h = rw (b, st) (one (is_blank shape))
 empty_snoc (f ∷ es) e m q shape h b st = by (λ k. empty_snoc es e m q shape k b st) (is_empty_arm f) h
@@ -181,8 +181,8 @@ empty_snoc (f ∷ es) e m q shape h b st = by (λ k. empty_snoc es e m q shape k
     known (M.At r) e = sym e
     known M.None e = cc
 
-    by : (first_empty_arm es ≡ empty_of m → first_empty_arm (es ++ e ∷ []) ≡ empty_of (empty_by m q shape)) → (x : Bool) → (if x then some (start_of f) else first_empty_arm es) ≡ empty_of m
-        → (if x then some (start_of f) else first_empty_arm (es ++ e ∷ [])) ≡ empty_of (empty_by m q shape)
+    by : (first_empty_arm es ≡ empty_of m → first_empty_arm (es ++ e ∷ []) ≡ empty_of (empty_by m q shape)) → (x : Bool) → (if x then some (start_of f) otherwise first_empty_arm es) ≡ empty_of m
+        → (if x then some (start_of f) otherwise first_empty_arm (es ++ e ∷ [])) ≡ empty_of (empty_by m q shape)
     by go true h = sym (known m h)
     by go false h = go h
 
@@ -191,7 +191,7 @@ pub empty-first : (e : Expression ℕ) (es : List (Expression ℕ)) (m : Empty) 
 unfolding first_empty_arm
 empty-first e es m p shape h b st = by (is_blank shape) b
   where
-    by : (x : Bool) → is_empty_arm e ≡ x → (if is_empty_arm e then some (start_of e) else first_empty_arm es) ≡ empty_of (if x then M.At p else m)
+    by : (x : Bool) → is_empty_arm e ≡ x → (if is_empty_arm e then some (start_of e) otherwise first_empty_arm es) ≡ empty_of (if x then M.At p otherwise m)
     by true c = rw (c, st)
     by false c = rw (c, h)
 

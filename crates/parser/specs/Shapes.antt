@@ -2,7 +2,7 @@
 -- Assumes nothing.
 use Rattle.std.specs.Prelude.{ℕ, zero, suc, ◌+◌, ◌*◌, ◌≤◌, ◌≡◌, Bool, true, false, ◌&&◌, List, [], ◌∷◌, ◌++◌, length}
 use Rattle.std.proofs.Math.Option.{Option, none, some}
-use Rattle.basics.specs.Basics.{if◌then◌else◌, letters, is, among, spells}
+use Rattle.basics.specs.Basics.{if◌then◌otherwise◌, letters, is, among, spells}
 use Rattle.error.specs.Causes.{one_part}
 use Rattle.error.specs.declared.Cause.{Cause}
 use Rattle.error.specs.declared.Cause.TheVariants.{UnexpectedToken}
@@ -348,7 +348,7 @@ abbrev pub parse_set : List ℕ → (start : ℕ) → (inverted : Bool) → (a e
 parse_set s p i a e = parse_set_expression p i (part_of s a e)
 
 -- a marker, at its mark
-unfoldable pub parse_marker : (start : ℕ) → ConflictMarkerKind → Parser ℕ (Option (ItemMut ℕ))
+unfoldable pub parse_marker : (start : ℕ) → ConflictMarkerKind → Parser ℕ (Option (Item ℕ))
 parse_marker p m = do
   next
   n ← parse_identifier
@@ -496,11 +496,11 @@ pub record ReadyArms (s : List ℕ) (t : Current) (n x : ℕ) : Type 0 where
 -- the first empty arm: one of those before, or else an arm with this start and shape
 abbrev pub empty_by : Empty → (start : ℕ) → Shape → Empty
 empty_by (M.At p) q shape = M.At p
-empty_by M.None q shape = if is_blank shape then M.At q else M.None
+empty_by M.None q shape = if is_blank shape then M.At q otherwise M.None
 
 -- the first empty arm: an arm with this start and shape, or else one of those behind it
 abbrev pub empty_first : (start : ℕ) → Shape → Empty → Empty
-empty_first p shape m = if is_blank shape then M.At p else m
+empty_first p shape m = if is_blank shape then M.At p otherwise m
 
 -- a sequence that is not one expression alone
 abbrev pub sequence_shape : (expressions : ℕ) → Shape

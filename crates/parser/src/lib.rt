@@ -2,6 +2,7 @@
 // The functions call each other in a cycle: with each call the rest of the text is shorter, or it is the same and the function comes later in
 // the grammar. `left` is how many levels may still be entered.
 #![tactic(auto)]
+
 pub mod store; // records and texts in what is lent
 pub mod props; // lists and props
 pub mod parts; // parts of rules and expressions
@@ -28,7 +29,7 @@ use tree::SpecializeKind;
 pub const LEVELS: usize = 64;
 
 // `parse_braced_expression`
-#[cycle(apply_args_arms_braced_inline_item_items_list_mark_name_named_pair_parens_parse_expression_choice_parse_expression_inner_parse_expression_sequence_parse_expression_suffix_specialize_word)]
+#[cycle(expressions)]
 pub fn braced(
     source: &[u8],
     left: usize,
@@ -57,7 +58,7 @@ pub fn braced(
     Expressed::Done(t, m, y, p, shape)
 }
 
-#[cycle(apply_args_arms_braced_inline_item_items_list_mark_name_named_pair_parens_parse_expression_choice_parse_expression_inner_parse_expression_sequence_parse_expression_suffix_specialize_word)]
+#[cycle(expressions)]
 pub fn parse_expression_inner(
     source: &[u8],
     left: usize,
@@ -88,7 +89,7 @@ pub fn parse_expression_inner(
 }
 
 // At a mark: brackets, or an inline rule without a name.
-#[cycle(apply_args_arms_braced_inline_item_items_list_mark_name_named_pair_parens_parse_expression_choice_parse_expression_inner_parse_expression_sequence_parse_expression_suffix_specialize_word)]
+#[cycle(expressions)]
 fn mark(
     source: &[u8],
     left: usize,
@@ -127,7 +128,7 @@ fn mark(
 }
 
 // At `@` and a word.
-#[cycle(apply_args_arms_braced_inline_item_items_list_mark_name_named_pair_parens_parse_expression_choice_parse_expression_inner_parse_expression_sequence_parse_expression_suffix_specialize_word)]
+#[cycle(expressions)]
 fn word(
     source: &[u8],
     left: usize,
@@ -181,7 +182,7 @@ fn word(
 }
 
 // At a name.
-#[cycle(apply_args_arms_braced_inline_item_items_list_mark_name_named_pair_parens_parse_expression_choice_parse_expression_inner_parse_expression_sequence_parse_expression_suffix_specialize_word)]
+#[cycle(expressions)]
 fn name(
     source: &[u8],
     left: usize,
@@ -208,7 +209,7 @@ fn name(
 }
 
 // After a name: an inline rule, a class of `std`, or a name with its arguments.
-#[cycle(apply_args_arms_braced_inline_item_items_list_mark_name_named_pair_parens_parse_expression_choice_parse_expression_inner_parse_expression_sequence_parse_expression_suffix_specialize_word)]
+#[cycle(expressions)]
 fn named(
     source: &[u8],
     left: usize,
@@ -258,7 +259,7 @@ fn named(
 }
 
 // A name with its arguments.
-#[cycle(apply_args_arms_braced_inline_item_items_list_mark_name_named_pair_parens_parse_expression_choice_parse_expression_inner_parse_expression_sequence_parse_expression_suffix_specialize_word)]
+#[cycle(expressions)]
 fn apply(
     source: &[u8],
     left: usize,
@@ -294,7 +295,7 @@ fn apply(
 }
 
 // `parse_parenthesized_expression`: after `(`, which is the token `first`.
-#[cycle(apply_args_arms_braced_inline_item_items_list_mark_name_named_pair_parens_parse_expression_choice_parse_expression_inner_parse_expression_sequence_parse_expression_suffix_specialize_word)]
+#[cycle(expressions)]
 fn parens(
     source: &[u8],
     left: usize,
@@ -330,7 +331,7 @@ fn parens(
 }
 
 // The two parts of a specialize that starts at `start`, and `>`.
-#[cycle(apply_args_arms_braced_inline_item_items_list_mark_name_named_pair_parens_parse_expression_choice_parse_expression_inner_parse_expression_sequence_parse_expression_suffix_specialize_word)]
+#[cycle(expressions)]
 fn pair(
     source: &[u8],
     left: usize,
@@ -379,7 +380,7 @@ fn pair(
 }
 
 // `parse_specialize_expression`: at `@specialize` or `@extend`.
-#[cycle(apply_args_arms_braced_inline_item_items_list_mark_name_named_pair_parens_parse_expression_choice_parse_expression_inner_parse_expression_sequence_parse_expression_suffix_specialize_word)]
+#[cycle(expressions)]
 fn specialize(
     source: &[u8],
     left: usize,
@@ -414,7 +415,7 @@ fn specialize(
 }
 
 // `parse_inline_rule_expression`: from its props or its brace on. Its first token is its name, or its bracket where it has none.
-#[cycle(apply_args_arms_braced_inline_item_items_list_mark_name_named_pair_parens_parse_expression_choice_parse_expression_inner_parse_expression_sequence_parse_expression_suffix_specialize_word)]
+#[cycle(expressions)]
 fn inline(
     source: &[u8],
     left: usize,
@@ -455,7 +456,7 @@ fn inline(
 }
 
 // Arguments after `<`.
-#[cycle(apply_args_arms_braced_inline_item_items_list_mark_name_named_pair_parens_parse_expression_choice_parse_expression_inner_parse_expression_sequence_parse_expression_suffix_specialize_word)]
+#[cycle(expressions)]
 fn list(
     source: &[u8],
     left: usize,
@@ -496,7 +497,7 @@ fn list(
 }
 
 // `parse_arguments`: those of a name, none where no `<` follows.
-#[cycle(apply_args_arms_braced_inline_item_items_list_mark_name_named_pair_parens_parse_expression_choice_parse_expression_inner_parse_expression_sequence_parse_expression_suffix_specialize_word)]
+#[cycle(expressions)]
 fn args(
     source: &[u8],
     left: usize,
@@ -517,7 +518,7 @@ fn args(
     }
 }
 
-#[cycle(apply_args_arms_braced_inline_item_items_list_mark_name_named_pair_parens_parse_expression_choice_parse_expression_inner_parse_expression_sequence_parse_expression_suffix_specialize_word)]
+#[cycle(expressions)]
 fn parse_expression_suffix(
     source: &[u8],
     left: usize,
@@ -561,7 +562,7 @@ fn parse_expression_suffix(
 }
 
 // A marker, an expression, or the sequence's end.
-#[cycle(apply_args_arms_braced_inline_item_items_list_mark_name_named_pair_parens_parse_expression_choice_parse_expression_inner_parse_expression_sequence_parse_expression_suffix_specialize_word)]
+#[cycle(expressions)]
 fn item(
     source: &[u8],
     left: usize,
@@ -591,7 +592,7 @@ fn item(
 }
 
 // Markers and expressions up to the sequence's end.
-#[cycle(apply_args_arms_braced_inline_item_items_list_mark_name_named_pair_parens_parse_expression_choice_parse_expression_inner_parse_expression_sequence_parse_expression_suffix_specialize_word)]
+#[cycle(expressions)]
 fn items(
     source: &[u8],
     left: usize,
@@ -638,7 +639,7 @@ fn items(
     }
 }
 
-#[cycle(apply_args_arms_braced_inline_item_items_list_mark_name_named_pair_parens_parse_expression_choice_parse_expression_inner_parse_expression_sequence_parse_expression_suffix_specialize_word)]
+#[cycle(expressions)]
 fn parse_expression_sequence(
     source: &[u8],
     left: usize,
@@ -679,7 +680,7 @@ fn parse_expression_sequence(
 }
 
 // The arms behind the first.
-#[cycle(apply_args_arms_braced_inline_item_items_list_mark_name_named_pair_parens_parse_expression_choice_parse_expression_inner_parse_expression_sequence_parse_expression_suffix_specialize_word)]
+#[cycle(expressions)]
 fn arms(
     source: &[u8],
     left: usize,
@@ -722,7 +723,7 @@ fn arms(
 }
 
 // A level is one entry here.
-#[cycle(apply_args_arms_braced_inline_item_items_list_mark_name_named_pair_parens_parse_expression_choice_parse_expression_inner_parse_expression_sequence_parse_expression_suffix_specialize_word)]
+#[cycle(expressions)]
 pub fn parse_expression_choice(
     source: &[u8],
     left: usize,

@@ -6,7 +6,7 @@ ghost use Rattle.notation.specs.Parser.{loop};
 ghost use Rattle.tokens.specs.declared.Part.TheVariants.{From};
 ghost use Rattle.tokens.specs.Promise.{stream, mark_of, string_of, LiesIn};
 ghost use Rattle.parser.specs.Storing.{lent, nodes_of};
-ghost use Rattle.parser.specs.Steps.{parsed_cause, parsed_place, listed_cause, listed_place, Ready, Parses, ParsesTurn, ParsesList, between_by, comma_step, step_by, separator as separatorD, Separates, Opens, PartValue, parse_value, PropName, props_list};
+ghost use Rattle.parser.specs.Steps.{parsed_cause, parsed_place, listed_cause, listed_place, Ready, Parses, ParsesTurn, ParsesList, between_by, comma_step, step_by, separator as separator_d, Separates, Opens, PartValue, parse_value, PropName, props_list};
 
 use crate::store;
 use error::Cause;
@@ -111,7 +111,7 @@ pub fn between(source: &[u8], token: Current, comma: Comma) -> Arrived
 // What stands before the next of so many items.
 fn separator(source: &[u8], token: Current, comma: Comma, count: usize) -> Arrived
     requires { LiesIn source.now 0 token }
-    ensures { Separates source.now token (separatorD comma count) (step_by comma count) result }
+    ensures { Separates source.now token (separator_d comma count) (step_by comma count) result }
 {
     if count == 0 {
         return Arrived::At(token);

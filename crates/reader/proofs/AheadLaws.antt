@@ -6,7 +6,7 @@ use mathlib.Core.Path.{◌≡◌, refl}
 use mathlib.Core.Bool.{Bool, true, false}
 use mathlib.Core.List.{List}
 use mathlib.Core.Option.{Option, none, some}
-use Rattle.basics.specs.Basics.{if◌then◌else◌, spells}
+use Rattle.basics.specs.Basics.{if◌then◌otherwise◌, spells}
 use Rattle.error.specs.declared.Cause.{Cause}
 use Rattle.lexer.specs.Tokens.{Tokens}
 use Rattle.tree.specs.Syntax.{SpecializeKind, Declaration, declaration_kind}
@@ -46,7 +46,7 @@ module _ {A : Type 0} {of : A → ℕ} {k : ℕ} where
   yields-choose true m n ts h i = h
   yields-choose false m n ts h i = i
 
-  pub yields_if : {j : ℕ} (b : Bool) (m n : Parser ℕ A) (ts : Tokens ℕ) → Yields of j (m ts) → Yields of k (n ts) → Yields of (if b then j else k) ((if b then m else n) ts)
+  pub yields_if : {j : ℕ} (b : Bool) (m n : Parser ℕ A) (ts : Tokens ℕ) → Yields of j (m ts) → Yields of k (n ts) → Yields of (if b then j otherwise k) ((if b then m otherwise n) ts)
   yields_if true m n ts h i = h
   yields_if false m n ts h i = i
 

@@ -8,7 +8,7 @@ use mathlib.Core.Bool.{Bool, true, false}
 use mathlib.Core.List.{List, [], ◌∷◌, ◌++◌}
 use lib.Dec.{eqb}
 use lib.ListN.{length, get_or, get_or-eq_default}
-use Rattle.basics.specs.Basics.{if◌then◌else◌}
+use Rattle.basics.specs.Basics.{if◌then◌otherwise◌}
 use Rattle.tree.specs.Records.{Branch, nodes, texts_of}
 use Rattle.tokens.specs.Promise.{LiesIn}
 use Rattle.parser.specs.Storing.{flat}
@@ -27,7 +27,7 @@ group_weighs place kind branches w g (m ∷ ms) =
     go (eqb (place m) g) w.none a b
   where
     go : (b : Bool) → w.of [] ≡ 0 → w.of (group_at place branches g ms) ≤ w.of (all_of kind branches 0 ms) → w.of (branches m ++ all_of kind branches 0 ms) ≡ w.of (branches m) + w.of (all_of kind branches 0 ms)
-        → w.of ((if b then branches m else []) ++ group_at place branches g ms) ≤ w.of (branches m ++ all_of kind branches 0 ms)
+        → w.of ((if b then branches m otherwise []) ++ group_at place branches g ms) ≤ w.of (branches m ++ all_of kind branches 0 ms)
     go true n a b = let c = w.more (branches m) (group_at place branches g ms) in omega arith
     go false n a b = omega arith
 

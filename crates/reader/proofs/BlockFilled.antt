@@ -10,7 +10,7 @@ use lib.Dec.{eqb, eqb→eq}
 use lib.ListN.{length, take, get_or, get_or-eq_default, set}
 use lib.Seq.{take_all, get_or-set_same}
 use Rattle.basics.proofs.Lists.{front-none}
-use Rattle.basics.specs.Basics.{if◌then◌else◌}
+use Rattle.basics.specs.Basics.{if◌then◌otherwise◌}
 use Rattle.error.specs.declared.Cause.{Cause}
 use Rattle.error.specs.Promise.{cause_number}
 use Rattle.tree.specs.Records.{Node, nodes, width, texts_of}
@@ -65,7 +65,7 @@ stands Skip (SkipMember.top_rule x) = in_group (omega arith)
 stands Skip (SkipMember.rule x) = in_group (omega arith)
 
 module _ (b : Block) (g : ℕ) (l : length (kinds_of b) ≤ g) where
-  none-one : (m : MemberOf b) (e : Bool) → eqb (place_of b m) g ≡ e → Stands b m → (if e then branches_of b m else []) ≡ []
+  none-one : (m : MemberOf b) (e : Bool) → eqb (place_of b m) g ≡ e → Stands b m → (if e then branches_of b m otherwise []) ≡ []
   none-one m false q s = refl
   none-one m true q (in_group h) = absurd (let z : place_of b m ≡ g = eqb→eq (place_of b m) g (rw q tt) in omega arith)
   none-one m true q (bare h) = h

@@ -39,7 +39,7 @@ use Rattle.parser.specs.declared.parts.Shape.{Shape}
 use Rattle.tokens.proofs.Stream.{start-of, mark-of}
 use Rattle.parser.proofs.Onward.{placed_in, onward_then, onward-least}
 use Rattle.parser.proofs.Lists.{lays-then, lays-between}
-use Rattle.parser.proofs.Ready.{lays-node, lays_parent, lays-leaf, taken_at, name-got, part-short, flat-length, nodes-branch, nodes-leaf, nodes-first, count-first}
+use Rattle.parser.proofs.Ready.{lays-node, lays_parent, lays-leaf, identifier_at, name-got, part-short, flat-length, nodes-branch, nodes-leaf, nodes-first, count-first}
 use Rattle.parser.proofs.Took.{expect-at, expect_not}
 use Rattle.declarations.specs.Sources.{GotSource}
 use Rattle.declarations.proofs.SourceLaws.{source-few}
@@ -251,7 +251,7 @@ module _ {s : List ℕ} {t u v : Current} {a e b f n x m y : ℕ} {ws ts vs us :
         let l = name-got s k r.lies q i in
         record {
           value = set_by d (part_of s a e) (decode_string (part_of s b f)) h.members;
-          gives = set-read d (stream s t) (taken_at _ s k i.takes q) g.gives h.gives;
+          gives = set-read d (stream s t) (identifier_at s _ k i q) g.gives h.gives;
           onward = onward-least 1 (onward_then l.1.onward (onward_then g.onward h.onward)) (omega arith);
           lays = rw (nodes-leaf (named 15 0 (decode_string (part_of s b f))), l.0.part.bytes, h.counted)
               (lays_parent (lays-then source-lays h.lays) st₁ l.1.onward l.1.past (omega arith));

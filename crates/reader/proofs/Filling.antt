@@ -9,7 +9,7 @@ use mathlib.Core.List.{List, [], ◌∷◌, ◌++◌, append_assoc, append-nil}
 use lib.Dec.{T, eqb, eqb→eq, eqb_refl}
 use lib.ListN.{length, length-append, length-set, take, drop, get_or, set, get_or-append}
 use lib.Seq.{length-take-le, get_or-append-add, get_or-take, get_or-drop, get_or-set_same, get_or-set_other}
-use Rattle.basics.specs.Basics.{if◌then◌else◌}
+use Rattle.basics.specs.Basics.{if◌then◌otherwise◌}
 use Rattle.characters.specs.Promise.{written}
 use Rattle.characters.proofs.Written.{written_in}
 use Rattle.tree.specs.Records.{Branch, Node, nodes, width, records_from, words, texts_of}
@@ -133,7 +133,7 @@ module _ {xs : List Node} {n x m y : ℕ} {ws ts vs us : List ℕ} (st : Stores 
 -- behind the part of a group, more of it
 module _ {count : ℕ} {places : List ℕ} {part : ℕ → List ℕ} {before mid after : List ℕ} (f : Filled count places part before mid)
     {g c : ℕ} {new : List ℕ} (p : Put mid after c new) (l : g < count) (e : c ≡ get_or places g 0 + length (part g)) where
-  pub filled_more : (next : ℕ → List ℕ) → ((h : ℕ) → next h ≡ part h ++ (if eqb g h then new else [])) → Filled count places next before after
+  pub filled_more : (next : ℕ → List ℕ) → ((h : ℕ) → next h ≡ part h ++ (if eqb g h then new otherwise [])) → Filled count places next before after
   filled_more next n =
       record {
         same = p.same ∙ f.same;
@@ -144,22 +144,22 @@ module _ {count : ℕ} {places : List ℕ} {part : ℕ → List ℕ} {before mid
       }
     where
       old_in : (whole : List ℕ) → HoldsAll whole count places next → HoldsAll whole count places part
-      old_in whole all h q = let a : Holds whole (get_or places h 0) (part h ++ (if eqb g h then new else [])) = rw (n h) at (all h q) in holds-first (part h) _ a
+      old_in whole all h q = let a : Holds whole (get_or places h 0) (part h ++ (if eqb g h then new otherwise [])) = rw (n h) at (all h q) in holds-first (part h) _ a
 
-      same_group : (b : Bool) → eqb g g ≡ b → (if b then new else []) ≡ new
+      same_group : (b : Bool) → eqb g g ≡ b → (if b then new otherwise []) ≡ new
       same_group true q = refl
       same_group false q = absurd (let z = eqb_refl g in rw q at z)
 
       new_in : (whole : List ℕ) → HoldsAll whole count places next → Holds whole c new
       new_in whole all =
-          let a : Holds whole (get_or places g 0) (part g ++ (if eqb g g then new else [])) = rw (n g) at (all g l) in
-          let b : Holds whole (get_or places g 0 + length (part g)) (if eqb g g then new else []) = holds-rest (part g) _ a in
+          let a : Holds whole (get_or places g 0) (part g ++ (if eqb g g then new otherwise [])) = rw (n g) at (all g l) in
+          let b : Holds whole (get_or places g 0 + length (part g)) (if eqb g g then new otherwise []) = holds-rest (part g) _ a in
           rw (e, ← same_group (eqb g g) refl) b
 
       fits : (whole : List ℕ) → length whole ≡ length before → HoldsAll whole count places next → c + length new ≤ length mid
       fits whole w all = let a = (new_in whole all).within in let b = f.same in omega arith
 
-      both : (h : ℕ) (b : Bool) → eqb g h ≡ b → Holds after (get_or places h 0) (part h) → Holds after c new → Holds after (get_or places h 0) (part h ++ (if b then new else []))
+      both : (h : ℕ) (b : Bool) → eqb g h ≡ b → Holds after (get_or places h 0) (part h) → Holds after c new → Holds after (get_or places h 0) (part h ++ (if b then new otherwise []))
       both h true q o w =
           let z : g ≡ h = eqb→eq g h (rw q tt) in
           let y : Holds after (get_or places h 0 + length (part h)) new = rw (← z, ← e) w in
@@ -169,11 +169,11 @@ module _ {count : ℕ} {places : List ℕ} {part : ℕ → List ℕ} {before mid
 -- ------------------------------------------------------------------ one member more
 
 module _ {M : Type 0} (place : M → ℕ) (branches : M → List Branch) where
-  pub group_snoc : (g : ℕ) (ms : List M) (m : M) → group_at place branches g (ms ++ m ∷ []) ≡ group_at place branches g ms ++ (if eqb (place m) g then branches m else [])
+  pub group_snoc : (g : ℕ) (ms : List M) (m : M) → group_at place branches g (ms ++ m ∷ []) ≡ group_at place branches g ms ++ (if eqb (place m) g then branches m otherwise [])
   unfolding group_at
-  group_snoc g [] m = append-nil (if eqb (place m) g then branches m else [])
+  group_snoc g [] m = append-nil (if eqb (place m) g then branches m otherwise [])
   group_snoc g (n ∷ ms) m =
-      rw (group_snoc g ms m) (sym (append_assoc (if eqb (place n) g then branches n else []) (group_at place branches g ms) (if eqb (place m) g then branches m else [])))
+      rw (group_snoc g ms m) (sym (append_assoc (if eqb (place n) g then branches n otherwise []) (group_at place branches g ms) (if eqb (place m) g then branches m otherwise [])))
 
   -- nothing yet
   pub fills-none : (count : ℕ) (ps qs ws ts : List ℕ) → Fills place branches count [] ps qs ps qs ws ts ws ts
@@ -194,19 +194,19 @@ module _ {M : Type 0} (place : M → ℕ) (branches : M → List Branch) where
   module _ {count : ℕ} {ms : List M} {ps qs ps₁ qs₁ ws ts vs us : List ℕ} (f : Fills place branches count ms ps qs ps₁ qs₁ ws ts vs us)
       {m : M} (l : place m < count) (lp : count ≤ length ps) (lq : count ≤ length qs) where
     -- what a group has more
-    more_of : (g : ℕ) (b : Bool) → eqb (place m) g ≡ b → flat nodes (group_at place branches g ms ++ (if b then branches m else [])) ≡ flat nodes (group_at place branches g ms) ++ (if b then flat nodes (branches m) else [])
+    more_of : (g : ℕ) (b : Bool) → eqb (place m) g ≡ b → flat nodes (group_at place branches g ms ++ (if b then branches m otherwise [])) ≡ flat nodes (group_at place branches g ms) ++ (if b then flat nodes (branches m) otherwise [])
     more_of g true q = flat_append nodes (group_at place branches g ms) (branches m)
     more_of g false q = flat_append nodes (group_at place branches g ms) [] ∙ rw (flat-none nodes)
 
-    group_more : (g : ℕ) → flat nodes (group_at place branches g (ms ++ m ∷ [])) ≡ flat nodes (group_at place branches g ms) ++ (if eqb (place m) g then flat nodes (branches m) else [])
+    group_more : (g : ℕ) → flat nodes (group_at place branches g (ms ++ m ∷ [])) ≡ flat nodes (group_at place branches g ms) ++ (if eqb (place m) g then flat nodes (branches m) otherwise [])
     group_more g = rw (group_snoc g ms m) (more_of g (eqb (place m) g) refl)
 
     words_more : (g : ℕ) → words (records_from (get_or qs g 0) (flat nodes (group_at place branches g (ms ++ m ∷ []))))
-        ≡ words (records_from (get_or qs g 0) (flat nodes (group_at place branches g ms))) ++ (if eqb (place m) g then words (records_from (get_or qs₁ (place m) 0) (flat nodes (branches m))) else [])
+        ≡ words (records_from (get_or qs g 0) (flat nodes (group_at place branches g ms))) ++ (if eqb (place m) g then words (records_from (get_or qs₁ (place m) 0) (flat nodes (branches m))) otherwise [])
     words_more g = rw (group_more g) (go (eqb (place m) g) refl)
       where
-        go : (b : Bool) → eqb (place m) g ≡ b → words (records_from (get_or qs g 0) (flat nodes (group_at place branches g ms) ++ (if b then flat nodes (branches m) else [])))
-            ≡ words (records_from (get_or qs g 0) (flat nodes (group_at place branches g ms))) ++ (if b then words (records_from (get_or qs₁ (place m) 0) (flat nodes (branches m))) else [])
+        go : (b : Bool) → eqb (place m) g ≡ b → words (records_from (get_or qs g 0) (flat nodes (group_at place branches g ms) ++ (if b then flat nodes (branches m) otherwise [])))
+            ≡ words (records_from (get_or qs g 0) (flat nodes (group_at place branches g ms))) ++ (if b then words (records_from (get_or qs₁ (place m) 0) (flat nodes (branches m))) otherwise [])
         go true q =
             let z : place m ≡ g = eqb→eq (place m) g (rw q tt) in
             let y : get_or qs₁ (place m) 0 ≡ get_or qs g 0 + length (texts_of (flat nodes (group_at place branches g ms))) = rw z (f.bytes_on g (rw z at l)) in
@@ -216,11 +216,11 @@ module _ {M : Type 0} (place : M → ℕ) (branches : M → List Branch) where
         go false q = rw (append-nil, append-nil)
 
     texts-more : (g : ℕ) → texts_of (flat nodes (group_at place branches g (ms ++ m ∷ [])))
-        ≡ texts_of (flat nodes (group_at place branches g ms)) ++ (if eqb (place m) g then texts_of (flat nodes (branches m)) else [])
+        ≡ texts_of (flat nodes (group_at place branches g ms)) ++ (if eqb (place m) g then texts_of (flat nodes (branches m)) otherwise [])
     texts-more g = rw (group_more g) (go (eqb (place m) g))
       where
-        go : (b : Bool) → texts_of (flat nodes (group_at place branches g ms) ++ (if b then flat nodes (branches m) else []))
-            ≡ texts_of (flat nodes (group_at place branches g ms)) ++ (if b then texts_of (flat nodes (branches m)) else [])
+        go : (b : Bool) → texts_of (flat nodes (group_at place branches g ms) ++ (if b then flat nodes (branches m) otherwise []))
+            ≡ texts_of (flat nodes (group_at place branches g ms)) ++ (if b then texts_of (flat nodes (branches m)) otherwise [])
         go true = texts-append (flat nodes (group_at place branches g ms)) (flat nodes (branches m))
         go false = rw (append-nil, append-nil)
 
@@ -230,7 +230,7 @@ module _ {M : Type 0} (place : M → ℕ) (branches : M → List Branch) where
         → (g : ℕ) → g < count → get_or rs₂ g 0 ≡ get_or rs g 0 + size (flat nodes (group_at place branches g (ms ++ m ∷ [])))
     place-on size add rs rs₁ {k} {rs₂} s c on e d g q = rw (group_more g, d) (go (eqb (place m) g) refl)
       where
-        go : (b : Bool) → eqb (place m) g ≡ b → get_or (set rs₁ (place m) k) g 0 ≡ get_or rs g 0 + size (flat nodes (group_at place branches g ms) ++ (if b then flat nodes (branches m) else []))
+        go : (b : Bool) → eqb (place m) g ≡ b → get_or (set rs₁ (place m) k) g 0 ≡ get_or rs g 0 + size (flat nodes (group_at place branches g ms) ++ (if b then flat nodes (branches m) otherwise []))
         go true h =
             let z : place m ≡ g = eqb→eq (place m) g (rw h tt) in
             let a = add (flat nodes (group_at place branches g ms)) (flat nodes (branches m)) in

@@ -8,7 +8,7 @@ use mathlib.Core.List.{List, [], ◌∷◌, ◌++◌, append_assoc, append-nil}
 use mathlib.Core.Option.{Option, none, some}
 use lib.Dec.{eqb}
 use lib.ListN.{length, length-append}
-use Rattle.basics.specs.Basics.{if◌then◌else◌, is_empty, or_not, keep_if, kept, picked}
+use Rattle.basics.specs.Basics.{if◌then◌otherwise◌, is_empty, or_not, keep_if, kept, picked}
 use Rattle.characters.specs.Utf8.{encode_all}
 use Rattle.tree.specs.Records.{Branch, branch, Branches, []ᴮ, count, nodes, nodes_all}
 use Rattle.tree.specs.Stored.{each, name_branch, declaration_branch, external_prop_branch, flag, valued, grammar_branch}
@@ -47,20 +47,20 @@ top_one detect_delim = refl
 
 -- the declaration that a member of a kind is
 abbrev declared_of : ℕ → Member ℕ → Option (Declaration ℕ)
-declared_of k (declaration d) = if eqb (declaration_kind d) k then some d else none
+declared_of k (declaration d) = if eqb (declaration_kind d) k then some d otherwise none
 declared_of k (dialects ns) = none
 declared_of k (external_prop x) = none
 declared_of k detect_delim = none
 
-either-none : (b : Bool) → ◌≡◌ {A = List Branch} (if b then [] else []) []
+either-none : (b : Bool) → ◌≡◌ {A = List Branch} (if b then [] otherwise []) []
 either-none true = refl
 either-none false = refl
 
-branch_if : (b : Bool) (d : Declaration ℕ) → (if b then declaration_branch d ∷ [] else []) ≡ branch_of declaration_branch (if b then some d else none)
+branch_if : (b : Bool) (d : Declaration ℕ) → (if b then declaration_branch d ∷ [] otherwise []) ≡ branch_of declaration_branch (if b then some d otherwise none)
 branch_if true d = refl
 branch_if false d = refl
 
-keep-if : (b : Bool) (d : Declaration ℕ) (ds : List (Declaration ℕ)) → or_not (if b then some d else none) ds ≡ keep_if b d ds
+keep-if : (b : Bool) (d : Declaration ℕ) (ds : List (Declaration ℕ)) → or_not (if b then some d otherwise none) ds ≡ keep_if b d ds
 keep-if true d ds = refl
 keep-if false d ds = refl
 

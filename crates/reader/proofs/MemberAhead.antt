@@ -7,7 +7,7 @@ use mathlib.Core.Path.{◌≡◌, refl, sym, ◌∙◌}
 use mathlib.Core.Bool.{Bool, true, false, ◌&&◌}
 use mathlib.Core.List.{List}
 use mathlib.Core.Option.{Option, none, some}
-use Rattle.basics.specs.Basics.{if◌then◌else◌, is_empty, picked}
+use Rattle.basics.specs.Basics.{if◌then◌otherwise◌, is_empty, picked}
 use Rattle.lexer.specs.Tokens.{Kind, Tokens}
 use Rattle.lexer.specs.Escapes.{decode_string}
 use Rattle.notation.specs.Parser.{Answer, read, refused, Parser, and_then, ◌>>=◌, pure, choose, kind, kind_of as token_of, at_in, string_in, next, says, eat_if, eat_at}
@@ -45,7 +45,7 @@ module _ {A : Type 0} {of : A → ℕ} {k : ℕ} where
   unfolding eat_at kind ◌>>=◌ and_then
   at-eaten w f ts h = if_eaten (says w (at_in (token_of ts))) f ts h
 
-  by_test : {j : ℕ} (b : Bool) (m n : Parser ℕ A) (ts : Tokens ℕ) → Yields of j (m ts) → Yields of k (n ts) → Yields of (if b then j else k) (choose b m n ts)
+  by_test : {j : ℕ} (b : Bool) (m n : Parser ℕ A) (ts : Tokens ℕ) → Yields of j (m ts) → Yields of k (n ts) → Yields of (if b then j otherwise k) (choose b m n ts)
   unfolding choose
   by_test true m n ts h i = h
   by_test false m n ts h i = i
@@ -67,7 +67,7 @@ local-precedence : (us : Tokens ℕ) → Yields (kind_of B.LocalTokens) 9 ((pars
 unfolding ◌>>=◌
 local-precedence us = yields-then _ _ (λ x vs. yields-pure (LocalMember.precedence x) vs refl)
 
-local_by_lem : (is_else free : Bool) (us : Tokens ℕ) → Yields (kind_of B.LocalTokens) (if free then (if is_else then 13 else 3) else 3)
+local_by_lem : (is_else free : Bool) (us : Tokens ℕ) → Yields (kind_of B.LocalTokens) (if free then (if is_else then 13 otherwise 3) otherwise 3)
     (choose (is_else && free) (parse_named_node >>= λ x. pure (LocalMember.fallback x)) (parse_rule >>= λ x. pure (LocalMember.rule x)) us)
 unfolding choose ◌>>=◌
 local_by_lem true true us = yields-then _ _ (λ x vs. yields-pure (LocalMember.fallback x) vs refl)
@@ -75,7 +75,7 @@ local_by_lem true false us = local-rule us
 local_by_lem false true us = local-rule us
 local_by_lem false false us = local-rule us
 
-external-by : (b : Bool) (us : Tokens ℕ) → Yields (kind_of B.ExternalTokens) (if b then 17 else 13) (choose b (names >>= λ ns. pure (ExternalMember.conflicts ns)) (parse_named_node >>= λ x. pure (ExternalMember.token x)) us)
+external-by : (b : Bool) (us : Tokens ℕ) → Yields (kind_of B.ExternalTokens) (if b then 17 otherwise 13) (choose b (names >>= λ ns. pure (ExternalMember.conflicts ns)) (parse_named_node >>= λ x. pure (ExternalMember.token x)) us)
 unfolding choose ◌>>=◌
 external-by true us = yields-then _ _ (λ ns vs. yields-pure (ExternalMember.conflicts ns) vs refl)
 external-by false us = yields-then _ _ (λ x vs. yields-pure (ExternalMember.token x) vs refl)
@@ -84,7 +84,7 @@ specializer_by : (us : Tokens ℕ) → Yields (kind_of B.Specializer) 13 ((parse
 unfolding ◌>>=◌
 specializer_by us = yields-then _ _ (λ x vs. yields-pure (ExternalMember.token x) vs refl)
 
-skip_by : (b : Bool) (us : Tokens ℕ) → Yields (kind_of B.Skip) (if b then 2 else 3) ((parse_rule >>= λ r. pure (if b then SkipMember.top_rule r else SkipMember.rule r)) us)
+skip_by : (b : Bool) (us : Tokens ℕ) → Yields (kind_of B.Skip) (if b then 2 otherwise 3) ((parse_rule >>= λ r. pure (if b then SkipMember.top_rule r otherwise SkipMember.rule r)) us)
 unfolding ◌>>=◌
 skip_by true us = yields-then _ _ (λ r vs. yields-pure (SkipMember.top_rule r) vs refl)
 skip_by false us = yields-then _ _ (λ r vs. yields-pure (SkipMember.rule r) vs refl)
@@ -120,7 +120,7 @@ member_yields B.Skip free before f ts = skip-yields free before ts
 
 -- ------------------------------------------------------------------ it is always known
 
-if_both : (P : ℕ → Type 0) (b : Bool) (j k : ℕ) → P j → P k → P (if b then j else k)
+if_both : (P : ℕ → Type 0) (b : Bool) (j k : ℕ) → P j → P k → P (if b then j otherwise k)
 if_both P true j k h i = h
 if_both P false j k h i = i
 
@@ -130,10 +130,10 @@ Some k = k ≡ 0 → ⊥
 some-by : (b : Block) (free : Bool) (at string : Option (List ℕ)) → Some (member_kind_by b free at string)
 some-by B.Tokens free at (some t) = λ e. omega arith
 some-by B.Tokens free at none =
-    if_both Some (says "precedence" at) 9 (if says "conflict" at then 10 else 3) (λ e. omega arith) (if_both Some (says "conflict" at) 10 3 (λ e. omega arith) (λ e. omega arith))
+    if_both Some (says "precedence" at) 9 (if says "conflict" at then 10 otherwise 3) (λ e. omega arith) (if_both Some (says "conflict" at) 10 3 (λ e. omega arith) (λ e. omega arith))
 some-by B.LocalTokens free at string =
-    if_both Some (says "precedence" at) 9 (if free then (if says "else" at then 13 else 3) else 3) (λ e. omega arith)
-    (if_both Some free (if says "else" at then 13 else 3) 3 (if_both Some (says "else" at) 13 3 (λ e. omega arith) (λ e. omega arith)) (λ e. omega arith))
+    if_both Some (says "precedence" at) 9 (if free then (if says "else" at then 13 otherwise 3) otherwise 3) (λ e. omega arith)
+    (if_both Some free (if says "else" at then 13 otherwise 3) 3 (if_both Some (says "else" at) 13 3 (λ e. omega arith) (λ e. omega arith)) (λ e. omega arith))
 some-by B.ExternalTokens free at string = if_both Some (says "conflict" at) 17 13 (λ e. omega arith) (λ e. omega arith)
 some-by B.Specializer free at string = λ e. omega arith
 some-by B.Skip free at string = if_both Some (says "top" at) 2 3 (λ e. omega arith) (λ e. omega arith)
@@ -149,10 +149,10 @@ in_by : (b : Block) (free : Bool) (at string : Option (List ℕ)) → In b (memb
 unfolding place_in
 in_by B.Tokens free at (some t) = omega arith
 in_by B.Tokens free at none =
-    if_both (In B.Tokens) (says "precedence" at) 9 (if says "conflict" at then 10 else 3) (omega arith) (if_both (In B.Tokens) (says "conflict" at) 10 3 (omega arith) (omega arith))
+    if_both (In B.Tokens) (says "precedence" at) 9 (if says "conflict" at then 10 otherwise 3) (omega arith) (if_both (In B.Tokens) (says "conflict" at) 10 3 (omega arith) (omega arith))
 in_by B.LocalTokens free at string =
-    if_both (In B.LocalTokens) (says "precedence" at) 9 (if free then (if says "else" at then 13 else 3) else 3) (omega arith)
-    (if_both (In B.LocalTokens) free (if says "else" at then 13 else 3) 3 (if_both (In B.LocalTokens) (says "else" at) 13 3 (omega arith) (omega arith)) (omega arith))
+    if_both (In B.LocalTokens) (says "precedence" at) 9 (if free then (if says "else" at then 13 otherwise 3) otherwise 3) (omega arith)
+    (if_both (In B.LocalTokens) free (if says "else" at then 13 otherwise 3) 3 (if_both (In B.LocalTokens) (says "else" at) 13 3 (omega arith) (omega arith)) (omega arith))
 in_by B.ExternalTokens free at string = if_both (In B.ExternalTokens) (says "conflict" at) 17 13 (omega arith) (omega arith)
 in_by B.Specializer free at string = omega arith
 in_by B.Skip free at string = if_both (In B.Skip) (says "top" at) 2 3 (omega arith) (omega arith)

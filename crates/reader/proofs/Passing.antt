@@ -9,7 +9,7 @@ use mathlib.Core.Option.{Option, none, some}
 use lib.Dec.{eqb}
 use lib.ListN.{length, length-append}
 use Rattle.notation.proofs.Turns.{separate-nothing}
-use Rattle.basics.specs.Basics.{if◌then◌else◌}
+use Rattle.basics.specs.Basics.{if◌then◌otherwise◌}
 use Rattle.lexer.specs.declared.Kind.{Kind}
 use Rattle.tree.specs.Records.{Node, nodes, texts_of}
 use Rattle.notation.specs.Parser.{read, refused, Parser, and_then, ◌>>=◌, pure, choose, kind, kind_of, is_end, until_step, nothing}
@@ -39,7 +39,7 @@ use Rattle.reader.proofs.WholeLaws.{noted-start, noted_more, counted-more}
 records-few : (k : ℕ) → records_of k ≤ 1
 records-few k = go (eqb k 1 || eqb k 24)
   where
-    go : (b : Bool) → (if b then 0 else 1) ≤ 1
+    go : (b : Bool) → (if b then 0 otherwise 1) ≤ 1
     go true = omega arith
     go false = omega arith
 

@@ -8,7 +8,7 @@ use mathlib.Core.List.{List, [], ◌∷◌, ◌++◌, append_assoc, append-nil}
 use lib.Dec.{T, eqb, eqb→eq, eqb_refl, eqb-suc-zero, eqb-zero-suc, eqb-suc-suc}
 use lib.ListN.{length, length-set, take, drop, get_or, set}
 use lib.Seq.{take-suc-set, drop-set-lt, drop-cons, take_all, drop-length}
-use Rattle.basics.specs.Basics.{if◌then◌else◌}
+use Rattle.basics.specs.Basics.{if◌then◌otherwise◌}
 use Rattle.reader.specs.Places.{place_in, sum, lined_up}
 
 -- ------------------------------------------------------------------ the place of a kind
@@ -50,7 +50,7 @@ unfolding place_in
 place-behind k [] h = refl
 place-behind k (x ∷ xs) h = go (eqb k x) refl (place-behind k xs h.1)
   where
-    go : (b : Bool) → eqb k x ≡ b → place_in xs k ≡ length xs → (if b then 0 else suc (place_in xs k)) ≡ suc (length xs)
+    go : (b : Bool) → eqb k x ≡ b → place_in xs k ≡ length xs → (if b then 0 otherwise suc (place_in xs k)) ≡ suc (length xs)
     go true e i = absurd (h.0 (eqb→eq k x (rw e tt)))
     go false e i = ap suc i
 
@@ -59,7 +59,7 @@ unfolding place_in
 place-within [] k = omega arith
 place-within (x ∷ xs) k = go (eqb k x) (place-within xs k)
   where
-    go : (b : Bool) → place_in xs k ≤ length xs → (if b then 0 else suc (place_in xs k)) ≤ suc (length xs)
+    go : (b : Bool) → place_in xs k ≤ length xs → (if b then 0 otherwise suc (place_in xs k)) ≤ suc (length xs)
     go true h = omega arith
     go false h = omega arith
 
@@ -69,12 +69,12 @@ unfolding place_in
 place_test [] d k i l = absurd (omega arith)
 place_test (x ∷ xs) d k zero l = go (eqb k x)
   where
-    go : (b : Bool) → eqb (if b then 0 else suc (place_in xs k)) 0 ≡ b
+    go : (b : Bool) → eqb (if b then 0 otherwise suc (place_in xs k)) 0 ≡ b
     go true = refl
     go false = eqb-suc-zero (place_in xs k)
 place_test (x ∷ xs) d k (suc i) l = go (eqb k x) refl (place_test xs d.1 k i (omega arith))
   where
-    go : (b : Bool) → eqb k x ≡ b → eqb (place_in xs k) i ≡ eqb k (get_or xs i 0) → eqb (if b then 0 else suc (place_in xs k)) (suc i) ≡ eqb k (get_or xs i 0)
+    go : (b : Bool) → eqb k x ≡ b → eqb (place_in xs k) i ≡ eqb k (get_or xs i 0) → eqb (if b then 0 otherwise suc (place_in xs k)) (suc i) ≡ eqb k (get_or xs i 0)
     go true e r =
         let z : k ≡ x = eqb→eq k x (rw e tt) in
         let m = missing_at x xs d.0 i (omega arith) in

@@ -10,7 +10,7 @@ use mathlib.Core.Option.{Option, none, some}
 use lib.Dec.{eqb}
 use lib.ListN.{length}
 use Rattle.basics.proofs.Lists.{front-none}
-use Rattle.basics.specs.Basics.{if◌then◌else◌, letters, spells, picked}
+use Rattle.basics.specs.Basics.{if◌then◌otherwise◌, letters, spells, picked}
 use Rattle.error.specs.Causes.{unexpected_token, top_without_name, second_tokens, second_precedence, second_context}
 use Rattle.error.specs.Promise.{cause_number}
 use Rattle.error.specs.declared.Cause.{Cause}
@@ -399,7 +399,7 @@ unfolding ◌>>=◌ pure
 prop-other p ts =
     answers-then IsOther (λ _. prop_at p) (λ _ us. answers-then IsOther (λ x. pure (external_prop x)) (λ x vs ns q. absurd (let z : ◌≡◌ {A = ℕ} 0 1 = cc in omega arith)) (parse_external_prop p us)) (next ts)
 
-if_other : (b : Bool) (m n : Parser ℕ (Member ℕ)) (ts : Tokens ℕ) → Answers IsOther (m ts) → Answers IsOther (n ts) → Answers IsOther ((if b then m else n) ts)
+if_other : (b : Bool) (m n : Parser ℕ (Member ℕ)) (ts : Tokens ℕ) → Answers IsOther (m ts) → Answers IsOther (n ts) → Answers IsOther ((if b then m otherwise n) ts)
 if_other true m n ts h k = h
 if_other false m n ts h k = k
 

@@ -10,7 +10,7 @@ use lib.Dec.{eqb}
 use lib.ListN.{length}
 use borrow.Author.Tests.{not-true, not-false}
 use Rattle.basics.proofs.Lists.{picked-one}
-use Rattle.basics.specs.Basics.{if◌then◌else◌, concat, is_empty, last_of, or_not, picked}
+use Rattle.basics.specs.Basics.{if◌then◌otherwise◌, concat, is_empty, last_of, or_not, picked}
 use Rattle.error.specs.declared.Cause.{Cause}
 use Rattle.error.specs.Promise.{cause_number}
 use Rattle.tree.specs.Records.{texts_of}
@@ -75,7 +75,7 @@ top_one detect_delim = refl
 top-more : (ms : List (Member ℕ)) (m : Member ℕ) → has_top (picked declared (ms ++ m ∷ [])) ≡ has_top (picked declared ms) || member_top m
 top-more ms m = rw (picked-one declared ms m, tops-more (picked declared ms) (or_not (declared m) []), top_one m)
 
--- no declaration has the kind of `@detect_delim` or of dialects
+-- no declaration has the kind of `@detectDelim` or of dialects
 no_detect : (d : Declaration ℕ) → eqb (declaration_kind d) 1 ≡ false
 no_detect (Declaration.top_rule r) = refl
 no_detect (Declaration.rule r) = refl
@@ -130,11 +130,11 @@ names-before ms m e = rw (picked-one declared_dialects ms m, e, append-nil (pick
 
 module _ (s : List ℕ) (listed : Bool) (last : Current) (ms : List (Member ℕ)) (t u : Current) (h : NamedIs s listed last (last_names ms)) (l : LiesIn s 0 t) (i : IsToken t) where
   named-before : (m : Member ℕ) → declared_dialects m ≡ none → eqb (member_kind m) 24 ≡ false
-      → NamedIs s (listed || eqb (member_kind m) 24) (if eqb (member_kind m) 24 then t else last) (last_names (ms ++ m ∷ []))
+      → NamedIs s (listed || eqb (member_kind m) 24) (if eqb (member_kind m) 24 then t otherwise last) (last_names (ms ++ m ∷ []))
   named-before m e f = rw (f, or-false listed, names-before ms m e) h
 
   named_more : (m : Member ℕ) → ((ns : List (Identifier ℕ)) → m ≡ dialects ns → past names (stream s t) ≡ read ns (stream s u))
-      → NamedIs s (listed || eqb (member_kind m) 24) (if eqb (member_kind m) 24 then t else last) (last_names (ms ++ m ∷ []))
+      → NamedIs s (listed || eqb (member_kind m) 24) (if eqb (member_kind m) 24 then t otherwise last) (last_names (ms ++ m ∷ []))
   named_more (declaration d) g = named-before (declaration d) refl (no_dialects d)
   named_more (dialects ns) g =
       let y : NamedAt s t ns = record { rest = stream s u; gives = g ns refl; lies = l; token = i } in

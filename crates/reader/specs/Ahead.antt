@@ -2,7 +2,7 @@
 -- Assumes nothing.
 use Rattle.std.specs.Prelude.{ℕ, Bool, List}
 use Rattle.std.proofs.Math.Option.{Option, none, some}
-use Rattle.basics.specs.Basics.{if◌then◌else◌}
+use Rattle.basics.specs.Basics.{if◌then◌otherwise◌}
 use Rattle.lexer.specs.Tokens.{Tokens}
 use Rattle.notation.specs.Parser.{Answer, read, refused, kind_of, name_in, at_in, string_in, says, next}
 use Rattle.reader.specs.declared.blocks.Block.{Block}
@@ -12,11 +12,11 @@ use Rattle.reader.specs.declared.blocks.Block.TheVariants as B
 unfoldable pub external_kind : Option (List ℕ) → ℕ
 external_kind t =
     if says "tokens" t then 16
-    else if says "prop" t then 25
-    else if says "extend" t then 18
-    else if says "specialize" t then 18
-    else if says "propSource" t then 19
-    else 0
+    otherwise if says "prop" t then 25
+    otherwise if says "extend" t then 18
+    otherwise if says "specialize" t then 18
+    otherwise if says "propSource" t then 19
+    otherwise 0
 
 -- by the token after `@external`; 0 where that is refused
 unfoldable pub external_ahead : Answer ℕ (Unit {0}) → ℕ
@@ -32,14 +32,14 @@ plain_kind (some t) = 0
 unfoldable pub keyword_kind : (external : ℕ) → Option (List ℕ) → ℕ
 keyword_kind external t =
     if says "top" t then 2
-    else if says "tokens" t then 8
-    else if says "local" t then 12
-    else if says "context" t then 14
-    else if says "external" t then external
-    else if says "dialects" t then 24
-    else if says "precedence" t then 20
-    else if says "detectDelim" t then 1
-    else plain_kind t
+    otherwise if says "tokens" t then 8
+    otherwise if says "local" t then 12
+    otherwise if says "context" t then 14
+    otherwise if says "external" t then external
+    otherwise if says "dialects" t then 24
+    otherwise if says "precedence" t then 20
+    otherwise if says "detectDelim" t then 1
+    otherwise plain_kind t
 
 -- the kind of the declaration that begins at the current token
 unfoldable pub kind_ahead : Tokens ℕ → ℕ
@@ -50,15 +50,15 @@ kind_ahead ts = keyword_kind (external_ahead (next ts)) (at_in (kind_of ts))
 -- a member of `@tokens`: a string is a literal
 abbrev pub token_kind : (at string : Option (List ℕ)) → ℕ
 token_kind at (some t) = 11
-token_kind at none = if says "precedence" at then 9 else if says "conflict" at then 10 else 3
+token_kind at none = if says "precedence" at then 9 otherwise if says "conflict" at then 10 otherwise 3
 
 -- by what follows an `@`, and by a string; `free`: an `@else` still makes a fallback
 abbrev pub member_kind_by : Block → (free : Bool) → (at string : Option (List ℕ)) → ℕ
 member_kind_by B.Tokens free at string = token_kind at string
-member_kind_by B.LocalTokens free at string = if says "precedence" at then 9 else if free then (if says "else" at then 13 else 3) else 3
-member_kind_by B.ExternalTokens free at string = if says "conflict" at then 17 else 13
+member_kind_by B.LocalTokens free at string = if says "precedence" at then 9 otherwise if free then (if says "else" at then 13 otherwise 3) otherwise 3
+member_kind_by B.ExternalTokens free at string = if says "conflict" at then 17 otherwise 13
 member_kind_by B.Specializer free at string = 13
-member_kind_by B.Skip free at string = if says "top" at then 2 else 3
+member_kind_by B.Skip free at string = if says "top" at then 2 otherwise 3
 
 -- the kind of the member of a block that begins at the current token; `free`: an `@else` still makes a fallback
 unfoldable pub member_ahead : Block → (free : Bool) → Tokens ℕ → ℕ

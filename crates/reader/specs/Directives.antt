@@ -1,12 +1,11 @@
 -- Declarations at top level: what is read of one, given which kinds stand before it, and what is stored of it.
 -- Assumes nothing.
-use Rattle.std.specs.Prelude.{ℕ, ◌+◌, ◌≡◌, Bool, true, false, not, List, [], ◌∷◌, ◌++◌, length}
+use Rattle.std.specs.Prelude.{ℕ, ◌+◌, ◌≡◌, Bool, false, not, List, [], ◌∷◌, ◌++◌, length}
 use Rattle.error.specs.declared.Cause.{Cause}
 use Rattle.error.specs.declared.Cause.TheVariants.{UnexpectedToken}
 use Rattle.basics.specs.Basics.{is_empty, picked}
 use Rattle.error.specs.Promise.{cause_number}
 use Rattle.characters.specs.Utf8.{encode_all}
-use Rattle.lexer.specs.Tokens.{Tokens}
 use Rattle.tree.specs.Records.{Branch, Node, nodes}
 use Rattle.tree.specs.Stored.{declaration_branch, external_prop_branch, source_branch}
 use Rattle.tree.specs.Syntax.{Identifier, TokenDeclaration, LocalTokenDeclaration, Declaration, declaration_kind}
@@ -75,7 +74,7 @@ set_nodes b k p v before x =
     let bs = groups_of (kind_of b) (branches_of b) (kinds_of b) x.members in
     nodes (source_branch x.source) ++ flat nodes bs ++ node k p (encode_all x.id) v 0 (before + 1 + length bs) ∷ []
 
--- the kind of what stands at top level; `@detect_delim` is a value of the grammar's record, 1
+-- the kind of what stands at top level; `@detectDelim` is a value of the grammar's record, 1
 abbrev pub member_kind : Member ℕ → ℕ
 member_kind (declaration d) = declaration_kind d
 member_kind (dialects ns) = 24

@@ -1,7 +1,7 @@
 -- Members that are stored in groups: those of one kind after those of another, each group in the order of the text.
 -- Assumes nothing.
 use Rattle.std.specs.Prelude.{ℕ, zero, suc, ◌+◌, ◌*◌, ◌≤◌, ◌≡◌, Bool, true, List, [], ◌∷◌, ◌++◌, eqb, length}
-use Rattle.basics.specs.Basics.{if◌then◌else◌}
+use Rattle.basics.specs.Basics.{if◌then◌otherwise◌}
 use Rattle.error.specs.Promise.{cause_number}
 use Rattle.tree.specs.Records.{Branch, nodes, texts_of}
 use Rattle.notation.specs.Parser.{Answer, read, refused}
@@ -20,7 +20,7 @@ wants (suc n) k = eqb k (suc n)
 module _ {M : Type 0} (kind : M → ℕ) (branches : M → List Branch) where
   -- the branches of a member that is wanted
   abbrev pub chosen : (want : ℕ) → M → List Branch
-  chosen w m = if wants w (kind m) then branches m else []
+  chosen w m = if wants w (kind m) then branches m otherwise []
 
   -- of all members
   unfoldable pub all_of : (want : ℕ) → List M → List Branch

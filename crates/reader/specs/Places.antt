@@ -2,7 +2,7 @@
 -- after another, wherever they stand in the text.
 -- Assumes nothing.
 use Rattle.std.specs.Prelude.{ℕ, suc, ◌+◌, ◌*◌, ◌≤◌, ◌<◌, ◌≡◌, List, [], ◌∷◌, ◌++◌, eqb, length, get_or}
-use Rattle.basics.specs.Basics.{if◌then◌else◌}
+use Rattle.basics.specs.Basics.{if◌then◌otherwise◌}
 use Rattle.tree.specs.Records.{Branch, nodes, width, records_from, words, texts_of}
 use Rattle.tokens.specs.Promise.{LiesIn}
 use Rattle.tokens.specs.declared.Current.{Current}
@@ -11,7 +11,7 @@ use Rattle.parser.specs.Storing.{flat}
 -- where a kind stands among kinds, or behind them all
 unfoldable pub place_in : List ℕ → (kind : ℕ) → ℕ
 place_in [] k = 0
-place_in (x ∷ xs) k = if eqb k x then 0 else suc (place_in xs k)
+place_in (x ∷ xs) k = if eqb k x then 0 otherwise suc (place_in xs k)
 
 -- a list holds a part from a place on
 pub record Holds (whole : List ℕ) (at : ℕ) (part : List ℕ) : Type 0 where
@@ -32,7 +32,7 @@ module _ {M : Type 0} (place : M → ℕ) (branches : M → List Branch) where
   -- the branches of the members of a group
   unfoldable pub group_at : (g : ℕ) → List M → List Branch
   group_at g [] = []
-  group_at g (m ∷ ms) = (if eqb (place m) g then branches m else []) ++ group_at g ms
+  group_at g (m ∷ ms) = (if eqb (place m) g then branches m otherwise []) ++ group_at g ms
 
   -- The groups of members are filled in: what stands in the words, whose texts begin at the places in the bytes, and what in the bytes. Each
   -- place moves on behind what is stored there

@@ -1,9 +1,9 @@
 -- The whole of a grammar file: what is noted in a pass over its declarations, and what is stored of them all.
 -- Assumes nothing.
-use Rattle.std.specs.Prelude.{ℕ, ◌+◌, ◌*◌, ◌≤◌, ◌<◌, ◌≡◌, Bool, true, false, not, ◌||◌, List, [], ◌∷◌, ◌++◌, eqb, length, get_or, set}
+use Rattle.std.specs.Prelude.{ℕ, ◌+◌, ◌*◌, ◌≤◌, ◌<◌, ◌≡◌, Bool, true, false, not, ◌||◌, List, [], ◌∷◌, eqb, length, get_or, set}
 use Rattle.error.specs.declared.Cause.{Cause}
 use Rattle.error.specs.declared.Cause.TheVariants.{UnexpectedToken}
-use Rattle.basics.specs.Basics.{if◌then◌else◌, is_empty, over, picked, concat, last_of}
+use Rattle.basics.specs.Basics.{if◌then◌otherwise◌, is_empty, over, picked, concat, last_of}
 use Rattle.error.specs.Causes.{records_full, texts_full}
 use Rattle.error.specs.Promise.{cause_number}
 use Rattle.lexer.specs.Tokens.{Tokens}
@@ -41,7 +41,7 @@ members = until (kind >>= λ k. pure (is_end k)) nothing parse_declaration
 
 -- how many records of its own a declaration of a kind has in the grammar's: dialects are counted apart
 abbrev pub records_of : (kind : ℕ) → ℕ
-records_of k = if eqb k 1 || eqb k 24 then 0 else 1
+records_of k = if eqb k 1 || eqb k 24 then 0 otherwise 1
 
 -- a declaration of a kind, which begins at the token t, is noted
 abbrev pub note_of : Noted → (t : Current) → (kind : ℕ) → (top : Bool) → Noted
@@ -57,7 +57,7 @@ note_of n t k top =
       top = n.top || top;
       delim = n.delim || eqb k 1;
       listed = n.listed || eqb k 24;
-      last = if eqb k 24 then t else n.last;
+      last = if eqb k 24 then t otherwise n.last;
     }
 
 -- the names of the last `@dialects`

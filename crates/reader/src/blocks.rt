@@ -3,7 +3,7 @@ ghost use Rattle.std.specs.Prelude.{◌+◌, ◌<◌, ◌^◌, ◌≡◌};
 ghost use Rattle.tokens.specs.Promise.{stream, LiesIn};
 ghost use Rattle.parser.specs.Storing.{lent};
 ghost use Rattle.parser.specs.Steps.{Ready, between_by};
-ghost use Rattle.notation.specs.Declarations.{block as blockD};
+ghost use Rattle.notation.specs.Declarations.{block as block_d};
 ghost use Rattle.reader.specs.Groups.{groups_of, GathersTo};
 ghost use Rattle.reader.specs.Places.{place_in, sum, lined_up, Blank, Begins};
 ghost use Rattle.reader.specs.Blocks.{joined_cause, joined_place, kind_of, branches_of, kinds_of, comma_of, member_of, members_of, JoinsTo, block_count, SettlesTo, SpreadsTo, FirstTo, Roomy, one_of};
@@ -409,7 +409,7 @@ pub fn parse_block(
     x: usize,
 ) -> Listed
     requires { Roomy source.now token n x }
-    ensures { GathersTo (blockD (between_by (comma_of block)) (member_of block) (stream source.now token)) (groups_of (kind_of block) (branches_of block) (kinds_of block)) source.now token 2
+    ensures { GathersTo (block_d (between_by (comma_of block)) (member_of block) (stream source.now token)) (groups_of (kind_of block) (branches_of block) (kinds_of block)) source.now token 2
         (lent n records.old x texts.old) records.new texts.new result }
 {
     let opened = tokens::expect_punctuation(source, token, 0x7B);

@@ -1,7 +1,7 @@
 // The whole of a grammar file, from its first token on. A first pass measures each group; a second stores each declaration in its group.
 ghost use Rattle.std.specs.Prelude.{◌≤◌, ◌≡◌, ◌||◌, eqb, length};
-ghost use Rattle.basics.specs.Basics.{if◌then◌else◌};
-ghost use Rattle.tree.specs.Stored.{flag as flagD};
+ghost use Rattle.basics.specs.Basics.{if◌then◌otherwise◌};
+ghost use Rattle.tree.specs.Stored.{flag as flag_d};
 ghost use Rattle.notation.specs.Parser.{next as next_d};
 ghost use Rattle.tokens.specs.Promise.{stream, LiesIn, Whole as Spelled, text_in};
 ghost use Rattle.parser.specs.Storing.{lent};
@@ -234,7 +234,7 @@ fn declaration_placed(
 
 // The later of two tokens: that of a list of dialects.
 fn latest(kind: u32, token: Current, last: Current) -> Current
-    ensures { result ≡ (if eqb kind 24 then token else last) }
+    ensures { result ≡ (if eqb kind 24 then token otherwise last) }
 {
     if kind == 24 {
         return token;
@@ -351,7 +351,7 @@ fn dialects(
 }
 
 fn flag(b: bool) -> u32
-    ensures { result ≡ flagD b }
+    ensures { result ≡ flag_d b }
 {
     if b {
         return 1;

@@ -8,7 +8,7 @@ use Rattle.std.proofs.Math.Option.{Option, none, some}
 use Rattle.basics.specs.Basics.{letters}
 use Rattle.characters.specs.Utf8.{encode_all}
 use Rattle.lexer.specs.Tokens.{Kind}
-use Rattle.tree.specs.Syntax.{Identifier, PropPart, value, name, Prop, ConflictMarkerKind, ambiguity, precedence, ConflictMarker, SpecializeKind, extend, specialize, RepeatKind, optional, zero_or_more, one_or_more, CharClass, ascii_letter, ascii_lowercase, ascii_uppercase, digit, whitespace, eof, Expression, special, inline, choice, sequence, empty, repeat, set, any, class, Expressions, []ᴱ, ◌∷ᴱ◌, Slots, last, slot, RuleDeclaration, TokenReference, referred, TokenPrecDeclaration, TokenConflictDeclaration, LiteralDeclaration, NamedNode, ExternalPropDeclaration, PrecKind, left, right, cut, PrecItem, Declaration, top_rule, rule, tokens, local_tokens, context, external_tokens, external_specializer, external_prop_source, precedences, main_skip, scoped_skip, GrammarDeclaration}
+use Rattle.tree.specs.Syntax.{Identifier, PropPart, value, Prop, ConflictMarkerKind, ambiguity, precedence, ConflictMarker, SpecializeKind, extend, specialize, RepeatKind, optional, zero_or_more, one_or_more, CharClass, ascii_letter, ascii_lowercase, ascii_uppercase, digit, whitespace, eof, Expression, special, inline, choice, sequence, empty, repeat, set, any, class, Expressions, []ᴱ, ◌∷ᴱ◌, Slots, last, slot, RuleDeclaration, TokenReference, referred, TokenPrecDeclaration, TokenConflictDeclaration, LiteralDeclaration, NamedNode, ExternalPropDeclaration, PrecKind, left, right, cut, PrecItem, Declaration, top_rule, rule, tokens, local_tokens, context, external_tokens, external_specializer, external_prop_source, precedences, main_skip, scoped_skip, GrammarDeclaration}
 use Rattle.spelling.specs.Spelling.{quoted, hex_from, code_text, span_text, spans_text, spell, spaced}
 
 -- tokens in front of others
@@ -101,7 +101,7 @@ prec_tokens (some cut) ks = at "cut" ks
 abbrev pub from_tokens : (id source : List ℕ) → Tokens
 from_tokens n s ks = Kind.name n ∷ word "from" (string s ks)
 
--- the line of `@detect_delim`, if it is there
+-- the line of `@detectDelim`, if it is there
 abbrev pub detect_lines : Bool → List (List Kind)
 detect_lines false = []
 detect_lines true = at "detectDelim" [] ∷ []
@@ -294,7 +294,7 @@ module _ {S : Type 0} where
 
   -- ------------------------------------------------------------------ the text
 
-  -- the tokens of a grammar, line by line: one line for each top-level declaration, `@detect_delim` last
+  -- the tokens of a grammar, line by line: one line for each top-level declaration, `@detectDelim` last
   unfoldable pub lines : GrammarDeclaration S → List (List Kind)
   unfolding quoted hex_from code_text span_text spans_text each each_after expression_tokens declaration_tokens external_prop_tokens
   lines g =

@@ -2,7 +2,7 @@
 -- Assumes nothing.
 use Rattle.std.specs.Prelude.{ℕ, zero, suc, ◌+◌, ◌-◌, ◌/◌, ◌%◌, Bool, true, false, ◌||◌, List, [], ◌∷◌, ◌++◌, ltb, eqb}
 use Prim.Native.Char.{code}
-use Rattle.basics.specs.Basics.{if◌then◌else◌, letters, is}
+use Rattle.basics.specs.Basics.{if◌then◌otherwise◌, letters, is}
 use Rattle.characters.specs.Spans.{Span}
 use Rattle.lexer.specs.Tokens.{Kind}
 
@@ -13,7 +13,7 @@ quoted (c ∷ cs) = elim (is "\"" c || is "\\" c) [ true ↦ code "\\" ∷ c ∷
 
 -- a hexadecimal digit, upper case
 abbrev pub hex_digit : ℕ → ℕ
-hex_digit d = if ltb d 10 then code "0" + d else code "A" + (d - 10)
+hex_digit d = if ltb d 10 then code "0" + d otherwise code "A" + (d - 10)
 
 -- n in hexadecimal, without leading zeros, and then the rest. A code has at most six digits
 unfoldable pub hex_from : (digits n : ℕ) → List ℕ → List ℕ
@@ -28,7 +28,7 @@ code_text c = letters "\\u{" ++ hex_from 6 c (letters "}")
 unfoldable pub span_text : Span → List ℕ
 span_text s =
     if eqb (s.first + 1) s.past then code_text s.first
-    else code_text s.first ++ letters "-" ++ code_text (s.past - 1)
+    otherwise code_text s.first ++ letters "-" ++ code_text (s.past - 1)
 
 -- spans, one after another
 unfoldable pub spans_text : List Span → List ℕ

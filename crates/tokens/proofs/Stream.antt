@@ -2,13 +2,12 @@
 -- Assumes nothing.
 use Prim.Native.Nat.{ℕ, ◌≤◌}
 use lib.Dec.{eqb}
-use borrow.Author.Tests.{not-true, not-false}
 use lib.ListN.{length}
 use Rattle.basics.specs.Basics.{same}
 use Rattle.characters.specs.Places.{cut}
 use Rattle.lexer.proofs.Spelled.{spells-codes}
 use mathlib.Core.Path.{◌≡◌, refl, ap, sym}
-use mathlib.Core.Bool.{Bool, true, false, not}
+use mathlib.Core.Bool.{Bool, true, false}
 use mathlib.Core.List.{List}
 use mathlib.Core.Option.{Option, none, some}
 use Rattle.lexer.specs.declared.Kind.{Kind}
@@ -131,19 +130,19 @@ module _ (s : List ℕ) where
   -- ------------------------------------------------------------------ taking a token
 
   module _ (t : Current) where
-    pub eat_no : {b : Bool} → not b ≡ true → EatsIf s t b E.No
+    pub eat_no : {b : Bool} → b ≡ false → EatsIf s t b E.No
     unfolding eat_if pure
-    eat_no {b} e = record { eats = rw (not-true b e); lies = tt }
+    eat_no {b} e = record { eats = rw e; lies = tt }
 
-    module _ {b : Bool} (e : not b ≡ false) (r : Arrived) (h : (next (stream s t) ≡ arrival s r) × Lies s (end_in t) r) where
+    module _ {b : Bool} (e : b ≡ true) (r : Arrived) (h : (next (stream s t) ≡ arrival s r) × Lies s (end_in t) r) where
       pub eat_yes : {u : Current} → r ≡ At u → EatsIf s t b (E.Yes u)
       unfolding eat_if ◌>>=◌ and_then pure
-      eat_yes {u} q = let k : (next (stream s t) ≡ arrival s (At u)) × Lies s (end_in t) (At u) = rw q at h in record { eats = rw (not-false b e, eat_if, k.0); lies = k.1 }
+      eat_yes {u} q = let k : (next (stream s t) ≡ arrival s (At u)) × Lies s (end_in t) (At u) = rw q at h in record { eats = rw (e, eat_if, k.0); lies = k.1 }
 
       pub eat-refused : {d : Cause} {p : ℕ} → r ≡ Refused d p → EatsIf s t b (E.Refused d p)
       unfolding eat_if ◌>>=◌ and_then
       eat-refused {d} {p} q =
-          let k : (next (stream s t) ≡ arrival s (Refused d p)) × Lies s (end_in t) (Refused d p) = rw q at h in record { eats = rw (not-false b e, eat_if, k.0); lies = tt }
+          let k : (next (stream s t) ≡ arrival s (Refused d p)) × Lies s (end_in t) (Refused d p) = rw q at h in record { eats = rw (e, eat_if, k.0); lies = tt }
 
     pub eat-mark : {c n : ℕ} {r : Eaten} → n ≡ mark_of t → EatsIf s t (eqb n c) r → Eats s t c r
     unfolding eat ◌>>=◌ and_then kind

@@ -1,9 +1,10 @@
 // The current token, and how it is taken: the parser's steps along the tokens of a text.
 #![tactic(auto)]
+
 ghost use Rattle.std.specs.Prelude.{◌≡◌};
 ghost use Rattle.error.specs.Promise.{cause_number};
 ghost use Rattle.lexer.specs.Promise.{tokens_at, number};
-ghost use Rattle.notation.specs.Parser.{arrive as arriveD, next as next_d};
+ghost use Rattle.notation.specs.Parser.{arrive as arrive_d, next as next_d};
 ghost use Rattle.tokens.specs.Promise.{arrived_cause, arrived_place, taken_cause, taken_place, stream, start_in, end_in, code_in, mark_of, arrival, Lies, Eats, Expects, name_part, at_part, name_of, at_of, Whole, Says, EatsIf, EatsName, EatsAt, string_part, string_of, Takes, Identifies, TakesString};
 
 use error::Cause;
@@ -99,7 +100,7 @@ fn cause(c: lexer::Cause) -> Cause
 
 // The first token from a place on.
 pub fn arrive(source: &[u8], from: usize) -> Arrived
-    ensures { (arriveD (tokens_at source.now from) ≡ arrival source.now result) × Lies source.now from result }
+    ensures { (arrive_d (tokens_at source.now from) ≡ arrival source.now result) × Lies source.now from result }
 {
     match lexer::next(source, from) {
         Lexed::Token(kind, start, end) => Arrived::At(Current::Token(kind, start, end)),

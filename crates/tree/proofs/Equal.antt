@@ -15,7 +15,6 @@ use Rattle.tree.specs.OneTree.{kind_of, is_expression, rooted, build}
 use Rattle.tree.specs.Equality.{same_row, same_branch, same_branches, structurally_eq}
 use Rattle.tree.specs.Promise.{count_of, node_at, Inside, is_some, same_node, comparison_of, comparison, All}
 use Rattle.tree.specs.declared.Comparison.{Comparison}
-use Rattle.tree.specs.declared.Comparison.TheVariants as Comparison
 use Rattle.tree.proofs.Trees.{grown-first, grown_of, build-whole, build_broken, none-some, standing}
 use Rattle.tree.proofs.Standing.{all-inside}
 

@@ -163,9 +163,9 @@ last-expressions e f u =
 -- as many as there are
 all-expressions : {ds : List ℕ} (es : Expressions ℕ) → Upto (many expression_kinds ∷ []) expression_kinds ds → Reaches (many expression_kinds ∷ []) (expression_branches es) ds
 unfolding kinds_upon expression_branch
-all-expressions []ᴱ u = u.matched
-all-expressions (e ∷ᴱ es) u =
-    all-expressions es (upto-more expression_kinds (kind_of (expression_branch e)) (expression-kind e) (expression-kind e) u)
+all-expressions {ds = ds} []ᴱ u = u.matched
+all-expressions {ds = ds} (e ∷ᴱ es) u =
+    all-expressions {ds = kind_of (expression_branch e) ∷ ds} es (upto-more expression_kinds (kind_of (expression_branch e)) (expression-kind e) (expression-kind e) u)
 
 slot-kind : (e : Expression ℕ) → among slot_kinds (kind_of (expression_branch e)) ≡ true
 slot-kind e = rw (expression-kind e) (or_true_right (eqb (kind_of (expression_branch e)) 41) (eqb (kind_of (expression_branch e)) 42))
@@ -184,9 +184,9 @@ all-markers (m ∷ ms) bs u go = all-markers ms bs (upto-more slot_kinds (marker
 
 all_slots : {ds : List ℕ} (s : Slots ℕ) → Upto (many slot_kinds ∷ []) slot_kinds ds → Reaches (many slot_kinds ∷ []) (slot_branches s) ds
 unfolding kinds_upon expression_branch
-all_slots (last ms) u = all-markers ms []ᴮ u (λ cs v. v.matched)
-all_slots (slot ms e s) u =
-    all-markers ms (expression_branch e ∷ᴮ slot_branches s) u (λ cs v. all_slots s (upto-more slot_kinds (kind_of (expression_branch e)) (slot-kind e) (slot-kind e) v))
+all_slots {ds = ds} (last ms) u = all-markers ms []ᴮ u (λ cs v. v.matched)
+all_slots {ds = ds} (slot ms e s) u =
+    all-markers ms (expression_branch e ∷ᴮ slot_branches s) u (λ cs v. all_slots {ds = kind_of (expression_branch e) ∷ cs} s (upto-more slot_kinds (kind_of (expression_branch e)) (slot-kind e) (slot-kind e) v))
 
 pub specialize-fits : (k : SpecializeKind) (n : ℕ) → n ≡ 18 → values_fit n (specialize_value k) 0 ≡ true
 unfolding values_fit

@@ -10,7 +10,7 @@ use lib.ListN.{length}
 use Rattle.basics.specs.Basics.{among, kept}
 use Rattle.basics.proofs.Tests.{cases}
 use Rattle.characters.specs.Utf8.{encode_all}
-use Rattle.tree.specs.Syntax.{Identifier, name, Prop, RuleDeclaration, TokenReference, referred, TokenPrecDeclaration, TokenConflictDeclaration, LiteralDeclaration, NamedNode, PrecKind, left, right, cut, PrecItem, ExternalPropDeclaration, Declaration, top_rule, rule, tokens, local_tokens, context, external_tokens, external_specializer, external_prop_source, precedences, main_skip, scoped_skip, GrammarDeclaration, declaration_kind, of_kind, groups, Grouped, start_of}
+use Rattle.tree.specs.Syntax.{Identifier, Prop, RuleDeclaration, TokenReference, referred, TokenPrecDeclaration, TokenConflictDeclaration, LiteralDeclaration, NamedNode, PrecKind, left, right, cut, PrecItem, ExternalPropDeclaration, Declaration, top_rule, rule, tokens, local_tokens, context, external_tokens, external_specializer, external_prop_source, precedences, main_skip, scoped_skip, GrammarDeclaration, declaration_kind, of_kind, groups, Grouped, start_of}
 use Rattle.tree.specs.Records.{Branch, branch, Branches, []ᴮ, ◌∷ᴮ◌, records, texts, words}
 use Rattle.tree.specs.Stored.{full, named, valued, plain, each, flag, prop_branch, specialize_value, expression_branch, name_branch, source_branch, rule_branch, reference_branch, token_prec_branch, token_conflict_branch, literal_branch, named_node_branch, fallback_branches, prec_value, prec_item_branch, declaration_branch, external_prop_branch, grammar_branch}
 use Rattle.tree.specs.OneTree.{is_kind, expression_kinds, has_text, values_fit, Group, many, one, at_most_one, groups_of, matches, kind_of, build}

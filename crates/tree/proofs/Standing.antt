@@ -2,7 +2,7 @@
 -- Assumes nothing.
 use Prim.Native.Nat.{ℕ, suc, ◌+◌, ◌*◌, ◌≤◌, ◌<◌}
 use native.Mathlib.Omega.{arith}
-use mathlib.Core.Path.{◌≡◌, refl}
+use mathlib.Core.Path.{◌≡◌, refl, subst}
 use mathlib.Core.List.{List, [], ◌∷◌, ◌++◌, append_assoc}
 use native.Mathlib.Decide.{dec_lt}
 use lib.ListN.{length, get_or, length-append}
@@ -40,7 +40,7 @@ all-at (x ∷ xs) vs ts lo at u h l =
     let p = lies-part ts at x.row.text (texts_of xs) u l in
     let n : length (vs ++ r) ≡ suc lo * width = omega (arith, length-append vs r) in (
       one_at vs us ts lo at x (texts_of xs ++ u) h p,
-      rw (← append_assoc vs r us) (all-at xs (vs ++ r) ts (suc lo) (at + length x.row.text) u n (lies-after ts at x.row.text (texts_of xs) u p)),
+      subst (λ ws. All ws ts (suc lo) xs) (append_assoc vs r us) (all-at xs (vs ++ r) ts (suc lo) (at + length x.row.text) u n (lies-after ts at x.row.text (texts_of xs) u p)),
     )
 
 length-words : (at : ℕ) (xs : List Node) → length (words (records_from at xs)) ≡ length xs * width

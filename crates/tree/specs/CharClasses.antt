@@ -2,7 +2,7 @@
 -- Assumes nothing.
 use Rattle.std.specs.Prelude.{ℕ, List, [], ◌∷◌, ◌≡◌, refl}
 use Rattle.std.proofs.Math.Option.{Option, none, some}
-use Rattle.basics.specs.Basics.{if◌then◌else◌, spells}
+use Rattle.basics.specs.Basics.{if◌then◌otherwise◌, spells}
 use Rattle.characters.specs.Spans.{Span, ◌upto◌}
 use Rattle.characters.specs.Classes.{white_space}
 use Rattle.tree.specs.Syntax.{CharClass, ascii_letter, ascii_lowercase, ascii_uppercase, digit, whitespace, eof}
@@ -11,12 +11,12 @@ use Rattle.tree.specs.Syntax.{CharClass, ascii_letter, ascii_lowercase, ascii_up
 abbrev pub from_name : List ℕ → Option CharClass
 from_name t =
     if spells "asciiLetter" t then some ascii_letter
-    else if spells "asciiLowercase" t then some ascii_lowercase
-    else if spells "asciiUppercase" t then some ascii_uppercase
-    else if spells "digit" t then some digit
-    else if spells "whitespace" t then some whitespace
-    else if spells "eof" t then some eof
-    else none
+    otherwise if spells "asciiLowercase" t then some ascii_lowercase
+    otherwise if spells "asciiUppercase" t then some ascii_uppercase
+    otherwise if spells "digit" t then some digit
+    otherwise if spells "whitespace" t then some whitespace
+    otherwise if spells "eof" t then some eof
+    otherwise none
 
 -- the value of a class's record
 abbrev pub class_value : CharClass → ℕ

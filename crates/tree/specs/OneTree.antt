@@ -2,7 +2,7 @@
 -- Assumes nothing.
 use Rattle.std.specs.Prelude.{ℕ, ◌+◌, Bool, true, false, ◌&&◌, ◌||◌, List, [], ◌∷◌, map, reverse, eqb, leb, ltb, length, take, drop}
 use Rattle.std.proofs.Math.Option.{Option, none, some}
-use Rattle.basics.specs.Basics.{if◌then◌else◌, among, within}
+use Rattle.basics.specs.Basics.{if◌then◌otherwise◌, among, within}
 use Rattle.characters.specs.Places.{cut}
 use Rattle.tree.specs.Records.{Row, Branch, branch, Branches, []ᴮ, ◌∷ᴮ◌, Record}
 
@@ -29,15 +29,15 @@ has_text k =
 abbrev pub value_fits : (kind value : ℕ) → Bool
 value_fits k v =
     if among (1 ∷ 5 ∷ 34 ∷ 37 ∷ []) k then leb v 1
-    else if among (18 ∷ 31 ∷ []) k then within 1 2 v
-    else if eqb k 35 then leb v 2
-    else if eqb k 21 then leb v 3
-    else if eqb k 40 then leb v 5
-    else eqb v 0
+    otherwise if among (18 ∷ 31 ∷ []) k then within 1 2 v
+    otherwise if eqb k 35 then leb v 2
+    otherwise if eqb k 21 then leb v 3
+    otherwise if eqb k 40 then leb v 5
+    otherwise eqb v 0
 
 -- value and second: those of a span are its first code and one past its last
 unfoldable pub values_fit : (kind value second : ℕ) → Bool
-values_fit k v s = if eqb k 38 then ltb v s && leb s 1114112 else value_fits k v && eqb s 0
+values_fit k v s = if eqb k 38 then ltb v s && leb s 1114112 otherwise value_fits k v && eqb s 0
 
 -- ------------------------------------------------------------------ children
 
@@ -53,26 +53,26 @@ groups_of k v =
     if eqb k 1 then
     many (2 ∷ []) ∷ many (3 ∷ []) ∷ many (8 ∷ []) ∷ many (12 ∷ []) ∷ many (14 ∷ []) ∷ many (16 ∷ []) ∷ many (18 ∷ [])
     ∷ many (19 ∷ []) ∷ many (20 ∷ []) ∷ many (22 ∷ []) ∷ many (23 ∷ []) ∷ many (24 ∷ []) ∷ many (25 ∷ []) ∷ []
-    else if within 2 3 k then many (5 ∷ []) ∷ many (4 ∷ []) ∷ one expression_kinds ∷ []
-    else if eqb k 5 then many (6 ∷ 7 ∷ []) ∷ []
-    else if eqb k 8 then many (9 ∷ []) ∷ many (10 ∷ []) ∷ many (3 ∷ []) ∷ many (11 ∷ []) ∷ []
-    else if eqb k 9 then many (30 ∷ 36 ∷ []) ∷ []
-    else if eqb k 10 then one (30 ∷ 36 ∷ []) ∷ one (30 ∷ 36 ∷ []) ∷ []
-    else if among (11 ∷ 13 ∷ []) k then many (5 ∷ []) ∷ []
-    else if eqb k 12 then many (9 ∷ []) ∷ many (3 ∷ []) ∷ at_most_one (13 ∷ []) ∷ []
-    else if among (14 ∷ 19 ∷ []) k then one (15 ∷ []) ∷ []
-    else if eqb k 16 then one (15 ∷ []) ∷ many (13 ∷ []) ∷ many (17 ∷ []) ∷ []
-    else if eqb k 18 then one expression_kinds ∷ one (15 ∷ []) ∷ many (13 ∷ []) ∷ []
-    else if eqb k 20 then many (21 ∷ []) ∷ []
-    else if among (22 ∷ 35 ∷ []) k then one expression_kinds ∷ []
-    else if eqb k 23 then one expression_kinds ∷ many (2 ∷ []) ∷ many (3 ∷ []) ∷ []
-    else if eqb k 25 then one (26 ∷ []) ∷ one (15 ∷ []) ∷ []
-    else if among (30 ∷ 33 ∷ []) k then many expression_kinds ∷ []
-    else if eqb k 31 then many (5 ∷ []) ∷ one expression_kinds ∷ one expression_kinds ∷ []
-    else if eqb k 32 then many (5 ∷ []) ∷ one expression_kinds ∷ []
-    else if eqb k 34 && eqb v 0 then many (41 ∷ 42 ∷ expression_kinds) ∷ []
-    else if eqb k 37 then many (38 ∷ []) ∷ []
-    else []
+    otherwise if within 2 3 k then many (5 ∷ []) ∷ many (4 ∷ []) ∷ one expression_kinds ∷ []
+    otherwise if eqb k 5 then many (6 ∷ 7 ∷ []) ∷ []
+    otherwise if eqb k 8 then many (9 ∷ []) ∷ many (10 ∷ []) ∷ many (3 ∷ []) ∷ many (11 ∷ []) ∷ []
+    otherwise if eqb k 9 then many (30 ∷ 36 ∷ []) ∷ []
+    otherwise if eqb k 10 then one (30 ∷ 36 ∷ []) ∷ one (30 ∷ 36 ∷ []) ∷ []
+    otherwise if among (11 ∷ 13 ∷ []) k then many (5 ∷ []) ∷ []
+    otherwise if eqb k 12 then many (9 ∷ []) ∷ many (3 ∷ []) ∷ at_most_one (13 ∷ []) ∷ []
+    otherwise if among (14 ∷ 19 ∷ []) k then one (15 ∷ []) ∷ []
+    otherwise if eqb k 16 then one (15 ∷ []) ∷ many (13 ∷ []) ∷ many (17 ∷ []) ∷ []
+    otherwise if eqb k 18 then one expression_kinds ∷ one (15 ∷ []) ∷ many (13 ∷ []) ∷ []
+    otherwise if eqb k 20 then many (21 ∷ []) ∷ []
+    otherwise if among (22 ∷ 35 ∷ []) k then one expression_kinds ∷ []
+    otherwise if eqb k 23 then one expression_kinds ∷ many (2 ∷ []) ∷ many (3 ∷ []) ∷ []
+    otherwise if eqb k 25 then one (26 ∷ []) ∷ one (15 ∷ []) ∷ []
+    otherwise if among (30 ∷ 33 ∷ []) k then many expression_kinds ∷ []
+    otherwise if eqb k 31 then many (5 ∷ []) ∷ one expression_kinds ∷ one expression_kinds ∷ []
+    otherwise if eqb k 32 then many (5 ∷ []) ∷ one expression_kinds ∷ []
+    otherwise if eqb k 34 && eqb v 0 then many (41 ∷ 42 ∷ expression_kinds) ∷ []
+    otherwise if eqb k 37 then many (38 ∷ []) ∷ []
+    otherwise []
 
 -- what is left of the list after those at its front that are among some kinds
 unfoldable pub without : List ℕ → List ℕ → List ℕ
@@ -90,7 +90,7 @@ matches [] [] = true
 matches [] (c ∷ cs) = false
 matches (many ks ∷ gs) cs = matches gs (without ks cs)
 matches (one ks ∷ gs) cs = begins ks cs && matches gs (drop 1 cs)
-matches (at_most_one ks ∷ gs) cs = matches gs (if begins ks cs then drop 1 cs else cs)
+matches (at_most_one ks ∷ gs) cs = matches gs (if begins ks cs then drop 1 cs otherwise cs)
 
 -- the kinds of a record's children, last first, as they stand on the stack (below)
 abbrev pub children_fit : (kind value : ℕ) → List ℕ → Bool
@@ -101,7 +101,7 @@ children_fit k v cs = matches (reverse (groups_of k v)) cs
 -- a text of a kind that has one stands where the texts before it end, in texts of `room` bytes; an empty text has place 0
 unfoldable pub text_fits : (room at : ℕ) → Record → Bool
 text_fits room at r =
-    if eqb r.size 0 then eqb r.place 0 else (has_text r.kind && eqb r.place at && leb (at + r.size) room)
+    if eqb r.size 0 then eqb r.place 0 otherwise (has_text r.kind && eqb r.place at && leb (at + r.size) room)
 
 -- a record over its children, whose kinds are given, last first
 unfoldable pub record_fits : (room at : ℕ) → Record → List ℕ → Bool
@@ -162,7 +162,7 @@ build_by texts (some rs) = build_from texts 0 rs []
 -- the tree, if its root is of a kind that passes the test
 abbrev pub rooted : (ℕ → Bool) → Option Branch → Option Branch
 rooted root none = none
-rooted root (some b) = if root (kind_of b) then some b else none
+rooted root (some b) = if root (kind_of b) then some b otherwise none
 
 -- the tree that words and texts are, if they are one, its root of a kind that passes the test
 unfoldable pub build : (root : ℕ → Bool) → (words texts : List ℕ) → Option Branch

@@ -2,7 +2,7 @@
 -- Assumes nothing.
 use Rattle.std.specs.Prelude.{ℕ, zero, suc, ◌+◌, ◌-◌, ◌*◌, ◌/◌, ◌≤◌, ◌<◌, ◌≡◌, Bool, true, false, ◌&&◌, List, [], ◌∷◌, eqb, ltb, length, get_or}
 use Rattle.std.proofs.Math.Option.{Option, none, some}
-use Rattle.basics.specs.Basics.{if◌then◌else◌}
+use Rattle.basics.specs.Basics.{if◌then◌otherwise◌}
 use Rattle.tree.specs.Syntax.{CharClass, ascii_letter, ascii_lowercase, ascii_uppercase, digit, whitespace, eof, RepeatKind, optional, zero_or_more, one_or_more, SpecializeKind, extend, specialize, ConflictMarkerKind, ambiguity, precedence, PrecKind, left, right, cut}
 use Rattle.tree.specs.Records.{Branch, Node, Record, width}
 use Rattle.tree.specs.OneTree.{expression_kinds, is_expression, Group, many, one, at_most_one, row_of}
@@ -19,9 +19,7 @@ use Rattle.tree.specs.declared.PrecKind.{PrecKind as DeclaredPrec}
 use Rattle.tree.specs.declared.PrecKind.TheVariants as PrecKinds
 use Rattle.tree.specs.declared.Record as declared
 use Rattle.tree.specs.declared.Root.{Root}
-use Rattle.tree.specs.declared.Root.TheVariants as Root
 use Rattle.tree.specs.declared.Comparison.{Comparison}
-use Rattle.tree.specs.declared.Comparison.TheVariants as Comparison
 
 -- ------------------------------------------------------------------ kinds
 
@@ -134,22 +132,22 @@ kinds_back ws end (suc n) = kind_before ws end ∷ kinds_back ws (first_element 
 abbrev pub kinds_of : ℕ → List ℕ
 kinds_of n =
     if eqb n 50 then expression_kinds
-    else if eqb n 51 then 41 ∷ 42 ∷ expression_kinds
-    else if eqb n 52 then 30 ∷ 36 ∷ []
-    else if eqb n 53 then 6 ∷ 7 ∷ []
-    else n ∷ []
+    otherwise if eqb n 51 then 41 ∷ 42 ∷ expression_kinds
+    otherwise if eqb n 52 then 30 ∷ 36 ∷ []
+    otherwise if eqb n 53 then 6 ∷ 7 ∷ []
+    otherwise n ∷ []
 
 -- a group, by the number of its kinds: as many as there are, 64 more for just one, 128 more for at most one
 abbrev pub group_of : ℕ → Group
 group_of n =
     if ltb n 64 then many (kinds_of n)
-    else if ltb n 128 then one (kinds_of (n - 64))
-    else at_most_one (kinds_of (n - 128))
+    otherwise if ltb n 128 then one (kinds_of (n - 64))
+    otherwise at_most_one (kinds_of (n - 128))
 
 -- groups up to a 0
 unfoldable pub groups_in : List ℕ → List Group
 groups_in [] = []
-groups_in (n ∷ ns) = if eqb n 0 then [] else group_of n ∷ groups_in ns
+groups_in (n ∷ ns) = if eqb n 0 then [] otherwise group_of n ∷ groups_in ns
 
 -- ------------------------------------------------------------------ one tree
 

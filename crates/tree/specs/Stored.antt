@@ -183,7 +183,7 @@ declaration_branch (scoped_skip x) =
 abbrev pub external_prop_branch : ExternalPropDeclaration ℕ → Branch
 external_prop_branch x = branch (named 25 x.start x.id) (name_branch 26 x.external_id ∷ᴮ source_branch x.source ∷ᴮ []ᴮ)
 
--- 1 grammar (value 1: `@detect_delim`): 2, 3, 8, 12, 14, 16, 18, 19, 20, 22, 23, 24, 25
+-- 1 grammar (value 1: `@detectDelim`): 2, 3, 8, 12, 14, 16, 18, 19, 20, 22, 23, 24, 25
 unfoldable pub grammar_branch : GrammarDeclaration ℕ → Branch
 unfolding each expression_branch declaration_branch
 grammar_branch g =

@@ -179,7 +179,7 @@ pub record ScopedSkipDeclaration (S : Type 0) : Type 0 where
   pub top_rules : List (RuleDeclaration S)
   pub rules : List (RuleDeclaration S)
 
--- what stands at top level, but for dialects, external props and `@detect_delim`
+-- what stands at top level, but for dialects, external props and `@detectDelim`
 pub data Declaration (S : Type 0) : Type 0 where
   top_rule : RuleDeclaration S → Declaration S
   rule : RuleDeclaration S → Declaration S

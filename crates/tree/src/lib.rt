@@ -2,13 +2,14 @@
 // Whether words and texts are one tree, and whether two trees are structurally equal. Nothing is copied, there is no stack and no
 // recursion: a branch is passed by counting back over its records.
 #![tactic(auto)]
+
 ghost use Rattle.std.specs.Prelude.{◌≡◌, ◌+◌, ◌-◌, ◌*◌, ◌≤◌, ◌<◌, [], ◌∷◌, reverse, length, take, eqb, ◌||◌};
 ghost use Rattle.basics.specs.Basics.{among, same, within};
 ghost use Rattle.characters.specs.Promise.{written, flat};
 ghost use Rattle.tree.specs.Records.{width, words_of};
 ghost use Rattle.tree.specs.CharClasses.{ranges, class_value};
 ghost use Rattle.tree.specs.Stored.{repeat_value, specialize_value, marker_number, prec_value};
-ghost use Rattle.tree.specs.OneTree.{is_kind, is_expression, has_text, values_fit, groups_of, text_fits, begins as beginsWith, children_fit, record_fits, build};
+ghost use Rattle.tree.specs.OneTree.{is_kind, is_expression, has_text, values_fit, groups_of, text_fits, begins as begins_with, children_fit, record_fits, build};
 ghost use Rattle.tree.specs.Promise.{class_of, repeat_of, specialize_of, marker_of, prec_of, record_of, count_of, word_at, record_at, node_at, Inside, first_element, kind_before, kinds_back, kinds_of, groups_in, root_of, is_some, same_node, comparison};
 
 // How many words a record has, and which is which.
@@ -510,7 +511,7 @@ fn sibling(records: &[u32], end: usize, left: usize) -> usize
 // Some branches are left, and the last of them is of one of the kinds that a number stands for.
 fn begins(records: &[u32], kinds: u32, end: usize, left: usize) -> bool
     requires { end ≤ count_of records.now }
-    ensures { result ≡ beginsWith (kinds_of kinds) (kinds_back records.now end left) }
+    ensures { result ≡ begins_with (kinds_of kinds) (kinds_back records.now end left) }
 {
     if left == 0 {
         return false;
@@ -668,8 +669,8 @@ fn same_record(
     right_texts: &[u8],
     i: usize,
 ) -> bool
-    requires inside { Inside left_records.now left_texts.now i }
-    requires inside_2 { Inside right_records.now right_texts.now i }
+    requires left { Inside left_records.now left_texts.now i }
+    requires right { Inside right_records.now right_texts.now i }
     ensures { result ≡ same_node (node_at left_records.now left_texts.now i) (node_at right_records.now right_texts.now i) }
 {
     let kind = word(left_records, i, KIND);

@@ -1,7 +1,7 @@
 -- The numbers that stand for a comparison.
 -- Assumes nothing.
 use Rattle.std.specs.Prelude.{ℕ}
-use Rattle.error.specs.Causes.{not_aTree}
+use Rattle.error.specs.Causes.{not_a_tree}
 use Rattle.tree.specs.declared.Comparison.{Comparison}
 use Rattle.tree.specs.declared.Comparison.TheVariants.{Equal, Different, NotATree}
 
@@ -9,4 +9,4 @@ use Rattle.tree.specs.declared.Comparison.TheVariants.{Equal, Different, NotATre
 abbrev pub comparison_number : Comparison → ℕ
 comparison_number Equal = 1
 comparison_number Different = 0
-comparison_number NotATree = not_aTree
+comparison_number NotATree = not_a_tree

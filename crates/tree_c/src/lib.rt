@@ -1,5 +1,6 @@
 // The functions of tree under plain names, for programs in Rust or C to link: compare/tree does.
 #![tactic(auto)]
+
 ghost use Rattle.std.specs.Prelude.{◌≡◌, eqb};
 ghost use Rattle.tree.specs.OneTree.{is_expression, build};
 ghost use Rattle.tree.specs.Promise.{is_some, comparison};

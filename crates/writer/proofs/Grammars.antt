@@ -5,7 +5,7 @@ use native.Mathlib.Omega.{arith}
 use mathlib.Core.Path.{◌≡◌, ap, sym, ◌∙◌}
 use mathlib.Core.List.{List, [], ◌∷◌, ◌++◌}
 use lib.ListN.{length}
-use Rattle.tree.specs.Records.{Row, Branch, branch, count, Node, nodes, nodes_all, texts, words}
+use Rattle.tree.specs.Records.{Row, Branch, branch, count, Node, nodes, nodes_all}
 use Rattle.tree.specs.Stored.{grammar_branch}
 use Rattle.tree.specs.Promise.{count_of, word_at, All}
 use Rattle.tree.proofs.Back.{all_left, root_at, past_root, nodes-some}

@@ -8,7 +8,7 @@ use mathlib.Core.List.{List, [], ◌∷◌, ◌++◌}
 use lib.Dec.{eqb, leb}
 use lib.ListN.{length, drop, length-append, length-take}
 use borrow.Author.Tests.{leb-true}
-use Rattle.basics.specs.Basics.{if◌then◌else◌, letters, among}
+use Rattle.basics.specs.Basics.{if◌then◌otherwise◌, letters, among}
 use Rattle.basics.proofs.Tests.{cases, both_true}
 use Rattle.writer.specs.Walk.{Entry, text_for, expression_commas, list_commas, expression_opens, node_opens, list_opens, list_shuts, expression_tails, source_tails, name_tails, prop_words, external_words, specialize_words, sequence_words, set_words, class_words, kind_words, prec_words, part_ends, repeat_words, list_ends, kind_ends, dialect_ends, detect_words, comma, opens, shuts, new_line, separator, between, source, tail, in_brackets, is_line, tokenless, lead, ends, before, spelled, after, own, block_end, close, class, setting, link, front, back, closing}
 use Rattle.spelling.specs.Spelling.{quoted, span_text, spell}
@@ -34,7 +34,7 @@ text-small m (e ∷ es) h n =
     cases (eqb n e.number) (λ i. rw i (leb-true (length e.text) m t.0)) (λ i. rw i (text-small m es t.1 n))
 
 -- of two texts
-either : (m : ℕ) (b : Bool) (s t : List ℕ) → length s ≤ m → length t ≤ m → length (if b then s else t) ≤ m
+either : (m : ℕ) (b : Bool) (s t : List ℕ) → length s ≤ m → length t ≤ m → length (if b then s otherwise t) ≤ m
 either m true s t h k = h
 either m false s t h k = k
 

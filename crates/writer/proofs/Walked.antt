@@ -6,7 +6,7 @@ use mathlib.Core.Path.{◌≡◌, refl, sym, ◌∙◌, ap}
 use mathlib.Core.Bool.{false}
 use mathlib.Core.List.{List, [], ◌∷◌, ◌++◌, append_assoc}
 use lib.Dec.{eqb}
-use Rattle.basics.specs.Basics.{if◌then◌else◌, letters}
+use Rattle.basics.specs.Basics.{if◌then◌otherwise◌, letters}
 use Rattle.basics.proofs.Tests.{cases}
 use Rattle.lexer.specs.Tokens.{Kind}
 use Rattle.characters.specs.Utf8.{encode, encode_all}
@@ -24,7 +24,7 @@ class_of b = class (kind_of b)
 -- ------------------------------------------------------------------ the walk with the rest as an argument
 
 unfoldable pub source_on : List ℕ → ℕ → List ℕ → List ℕ
-source_on t c rest = if eqb c 15 then 0x20 ∷ (t ++ (letters " from" ++ rest)) else rest
+source_on t c rest = if eqb c 15 then 0x20 ∷ (t ++ (letters " from" ++ rest)) otherwise rest
 
 abbrev pub link_on : Row → (left child : ℕ) → List ℕ → List ℕ
 link_on p l c rest = between p.kind l c ++ source_on p.text c rest

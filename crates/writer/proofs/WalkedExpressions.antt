@@ -8,7 +8,7 @@ use Rattle.basics.specs.Basics.{letters}
 use Rattle.characters.specs.Spans.{Span}
 use Rattle.characters.specs.Utf8.{encode, encode_all}
 use Rattle.lexer.specs.Tokens.{Kind}
-use Rattle.tree.specs.Syntax.{PropPart, value, name, Prop, ConflictMarkerKind, ambiguity, precedence, ConflictMarker, SpecializeKind, extend, specialize, RepeatKind, optional, zero_or_more, one_or_more, CharClass, ascii_letter, ascii_lowercase, ascii_uppercase, digit, whitespace, eof, Expression, special, inline, choice, sequence, empty, repeat, set, any, class, Expressions, []ᴱ, ◌∷ᴱ◌, Slots, last, slot}
+use Rattle.tree.specs.Syntax.{PropPart, value, Prop, ConflictMarkerKind, ambiguity, precedence, ConflictMarker, SpecializeKind, extend, specialize, RepeatKind, optional, zero_or_more, one_or_more, CharClass, ascii_letter, ascii_lowercase, ascii_uppercase, digit, whitespace, eof, Expression, special, inline, choice, sequence, empty, repeat, set, any, class, Expressions, []ᴱ, ◌∷ᴱ◌, Slots, last, slot}
 use Rattle.tree.specs.Records.{Row, branch, Branches, []ᴮ, ◌∷ᴮ◌}
 use Rattle.tree.specs.Stored.{full, named, valued, plain, leaf, flag, part_branch, prop_branch, marker_number, marker_branch, span_branch, expression_branch, expression_branches, slot_branches}
 use Rattle.tree.specs.Stored as Stored

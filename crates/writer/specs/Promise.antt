@@ -1,7 +1,7 @@
 -- What the functions' contracts say beside the definitions.
 -- Assumes nothing.
 use Rattle.std.specs.Prelude.{ℕ, ◌+◌, ◌≤◌, ◌<◌, ◌^◌, ◌≡◌, Bool, ◌||◌, List, ◌++◌, ltb, length, drop}
-use Rattle.basics.specs.Basics.{if◌then◌else◌}
+use Rattle.basics.specs.Basics.{if◌then◌otherwise◌}
 use Rattle.tree.specs.Syntax.{GrammarDeclaration}
 use Rattle.tree.specs.Stored.{grammar_words, grammar_texts}
 use Rattle.tree.specs.Records.{Row, Branches, count, nodes_all}
@@ -51,8 +51,8 @@ too_long limit t old = ltb limit (length t) || ltb (length old) (length t)
 
 -- the text is laid over the output, or the output is as it was
 pub record WroteWithin (limit : ℕ) (text old new : List ℕ) (r : Written) : Type 0 where
-  pub answer : r ≡ (if too_long limit text old then TooLong else Bytes (length text))
-  pub output : new ≡ (if too_long limit text old then old else text ++ drop (length text) old)
+  pub answer : r ≡ (if too_long limit text old then TooLong otherwise Bytes (length text))
+  pub output : new ≡ (if too_long limit text old then old otherwise text ++ drop (length text) old)
 
 -- the normal text within a limit, of whatever grammar it is
 abbrev pub WroteNormalWithin : (ws ts : List ℕ) → (limit : ℕ) → (old new : List ℕ) → Written → Type 0

@@ -4,7 +4,7 @@
 -- Assumes nothing.
 use Rattle.std.specs.Prelude.{ℕ, Bool, ◌&&◌, ◌||◌, not, List, [], ◌∷◌, ◌++◌, eqb}
 use Prim.Native.String.{String}
-use Rattle.basics.specs.Basics.{if◌then◌else◌, letters, among}
+use Rattle.basics.specs.Basics.{if◌then◌otherwise◌, letters, among}
 use Rattle.characters.specs.Spans.{◌upto◌}
 use Rattle.lexer.specs.Tokens.{Kind}
 use Rattle.tree.specs.Records.{Row, Branch, branch, Branches, []ᴮ, ◌∷ᴮ◌}
@@ -27,13 +27,13 @@ n says s = record { number = n; text = letters s }
 -- the text for a number, or none
 unfoldable pub text_for : List Entry → ℕ → List ℕ
 text_for [] n = []
-text_for (e ∷ es) n = if eqb n e.number then e.text else text_for es n
+text_for (e ∷ es) n = if eqb n e.number then e.text otherwise text_for es n
 
 -- ------------------------------------------------------------------ between two children
 
 -- kinds whose records stand in one list have one number: 30 is any expression, 6 any part of a prop
 unfoldable pub class : ℕ → ℕ
-class k = if is_expression k then 30 else if eqb k 7 then 6 else k
+class k = if is_expression k then 30 otherwise if eqb k 7 then 6 otherwise k
 
 -- between two expressions, by the parent
 abbrev pub expression_commas : List Entry
@@ -45,7 +45,7 @@ list_commas = 4 says " ," ∷ 5 says " ," ∷ 13 says " ," ∷ 17 says " ," ∷ 
 
 -- between two of class `child`
 unfoldable pub comma : (parent child : ℕ) → List ℕ
-comma p c = if eqb c 30 then text_for expression_commas p else text_for list_commas c
+comma p c = if eqb c 30 then text_for expression_commas p otherwise text_for list_commas c
 
 -- before the first expression, by the parent
 abbrev pub expression_opens : List Entry
@@ -61,7 +61,7 @@ list_opens = 4 says " <" ∷ 5 says " [" ∷ 6 says " =" ∷ 17 says " @conflict
 
 -- before the first of class `child`
 unfoldable pub opens : (parent child : ℕ) → List ℕ
-opens p c = if eqb c 30 then text_for expression_opens p else if eqb c 13 then text_for node_opens p else text_for list_opens c
+opens p c = if eqb c 30 then text_for expression_opens p otherwise if eqb c 13 then text_for node_opens p otherwise text_for list_opens c
 
 -- after the last of a class, where another follows, by the class
 abbrev pub list_shuts : List Entry
@@ -74,23 +74,23 @@ shuts c = text_for list_shuts c
 -- between two lines: dialects, of which there may be many, are one
 unfoldable pub new_line : (left child : ℕ) → List ℕ
 new_line l c =
-    if eqb c 24 then (if eqb l 24 then letters " ," else letters "@dialects {")
-    else (if eqb l 24 then letters " }\n" else [])
+    if eqb c 24 then (if eqb l 24 then letters " ," otherwise letters "@dialects {")
+    otherwise (if eqb l 24 then letters " }\n" otherwise [])
 
 -- between two children of classes l and c in a list with commas, or where one list ends and another begins
 unfoldable pub separator : (parent left child : ℕ) → List ℕ
-separator p l c = if eqb l c then comma p c else shuts l ++ opens p c
+separator p l c = if eqb l c then comma p c otherwise shuts l ++ opens p c
 
 -- between two children of classes l and c; l is 0 before the first
 unfoldable pub between : (parent left child : ℕ) → List ℕ
 between p l c =
     if eqb p 1 then new_line l c
-    else if among (8 ∷ 12 ∷ 23 ∷ 34 ∷ 37 ∷ []) p then opens p c
-    else separator p l c
+    otherwise if among (8 ∷ 12 ∷ 23 ∷ 34 ∷ 37 ∷ []) p then opens p c
+    otherwise separator p l c
 
 -- the parent's name stands before a source string
 unfoldable pub source : (name : List ℕ) → (child : ℕ) → List ℕ
-source t c = if eqb c 15 then (letters " " ++ t) ++ letters " from" else []
+source t c = if eqb c 15 then (letters " " ++ t) ++ letters " from" otherwise []
 
 -- all that stands between two children
 unfoldable pub link : (parent : Row) → (left child : ℕ) → List ℕ
@@ -110,13 +110,13 @@ name_tails = 26 says " as" ∷ []
 
 -- after a child of class `child`
 unfoldable pub tail : (parent child : ℕ) → List ℕ
-tail p c = if eqb c 30 then text_for expression_tails p else if eqb c 15 then text_for source_tails p else text_for name_tails c
+tail p c = if eqb c 30 then text_for expression_tails p otherwise if eqb c 15 then text_for source_tails p otherwise text_for name_tails c
 
 -- ------------------------------------------------------------------ round brackets, spaces and line feeds
 
 -- how children stand in a record: 1 in lines, 33 in arms, 34 in slots, else 0
 unfoldable pub setting : ℕ → ℕ
-setting p = if eqb p 1 then 1 else if eqb p 33 then 33 else if among (34 ∷ 35 ∷ []) p then 34 else 0
+setting p = if eqb p 1 then 1 otherwise if eqb p 33 then 33 otherwise if among (34 ∷ 35 ∷ []) p then 34 otherwise 0
 
 -- it stands in round brackets
 unfoldable pub in_brackets : (setting kind value : ℕ) → Bool
@@ -132,11 +132,11 @@ tokenless k v = among (33 ∷ 35 ∷ 38 ∷ []) k || (eqb k 34 && eqb v 0)
 
 -- what a record begins with: a bracket, a space or nothing
 unfoldable pub lead : (setting kind value : ℕ) → List ℕ
-lead s k v = if in_brackets s k v then letters " (" else if tokenless k v || is_line s k then [] else letters " "
+lead s k v = if in_brackets s k v then letters " (" otherwise if tokenless k v || is_line s k then [] otherwise letters " "
 
 -- what a record ends with: a bracket, a line feed or nothing
 unfoldable pub ends : (setting kind value : ℕ) → List ℕ
-ends s k v = if in_brackets s k v then letters " )" else if is_line s k then letters "\n" else []
+ends s k v = if in_brackets s k v then letters " )" otherwise if is_line s k then letters "\n" otherwise []
 
 -- ------------------------------------------------------------------ one record
 
@@ -175,20 +175,20 @@ kind_words =
 unfoldable pub before : (kind value : ℕ) → List ℕ
 before k v =
     if eqb k 5 then text_for prop_words v
-    else if eqb k 18 then text_for external_words v
-    else if eqb k 31 then text_for specialize_words v
-    else if eqb k 34 then text_for sequence_words v
-    else if eqb k 37 then text_for set_words v
-    else if eqb k 40 then text_for class_words v
-    else text_for kind_words k
+    otherwise if eqb k 18 then text_for external_words v
+    otherwise if eqb k 31 then text_for specialize_words v
+    otherwise if eqb k 34 then text_for sequence_words v
+    otherwise if eqb k 37 then text_for set_words v
+    otherwise if eqb k 40 then text_for class_words v
+    otherwise text_for kind_words k
 
 -- its text: a string, a span's codes, none where it stands before the source string, or a name
 unfoldable pub spelled : Row → List ℕ
 spelled r =
     if among (6 ∷ 11 ∷ 15 ∷ 36 ∷ []) r.kind then spell (Kind.string (quoted r.text))
-    else if eqb r.kind 38 then span_text (r.value upto r.second)
-    else if among (14 ∷ 16 ∷ 18 ∷ 19 ∷ 25 ∷ []) r.kind then []
-    else r.text
+    otherwise if eqb r.kind 38 then span_text (r.value upto r.second)
+    otherwise if among (14 ∷ 16 ∷ 18 ∷ 19 ∷ 25 ∷ []) r.kind then []
+    otherwise r.text
 
 -- after the text of an item of `@precedence`, by its value
 abbrev pub prec_words : List Entry
@@ -200,7 +200,7 @@ part_ends = 7 says " }" ∷ []
 
 -- after a record's text
 unfoldable pub after : (kind value : ℕ) → List ℕ
-after k v = if eqb k 21 then text_for prec_words v else text_for part_ends k
+after k v = if eqb k 21 then text_for prec_words v otherwise text_for part_ends k
 
 -- a record without its children
 unfoldable pub own : Row → List ℕ
@@ -222,21 +222,21 @@ kind_ends =
 
 -- the end of an external block, whose last list may be one of conflicts
 unfoldable pub block_end : (last : ℕ) → List ℕ
-block_end l = if eqb l 17 then letters " } }" else letters " }"
+block_end l = if eqb l 17 then letters " } }" otherwise letters " }"
 
 -- after a record's children
 unfoldable pub close : (kind value last : ℕ) → List ℕ
 close k v l =
     if eqb k 35 then text_for repeat_words v
-    else if among (11 ∷ 13 ∷ 30 ∷ []) k then text_for list_ends l
-    else if eqb k 16 then block_end l
-    else text_for kind_ends k
+    otherwise if among (11 ∷ 13 ∷ 30 ∷ []) k then text_for list_ends l
+    otherwise if eqb k 16 then block_end l
+    otherwise text_for kind_ends k
 
 -- ------------------------------------------------------------------ trees
 
 -- the class of a record's last child, or 0
 unfoldable pub last_at : (words : List ℕ) → ℕ → ℕ
-last_at ws i = if eqb (word_at ws i 6) 0 then 0 else class (kind_before ws i)
+last_at ws i = if eqb (word_at ws i 6) 0 then 0 otherwise class (kind_before ws i)
 
 -- all before a record's children
 unfoldable pub front : (parent : Row) → (left : ℕ) → Row → List ℕ
@@ -266,7 +266,7 @@ unfoldable mutual
 abbrev pub dialect_ends : List Entry
 dialect_ends = 24 says " }\n" ∷ []
 
--- `@detect_delim`, by the grammar's value
+-- `@detectDelim`, by the grammar's value
 abbrev pub detect_words : List Entry
 detect_words = 1 says "@detectDelim\n" ∷ []
 

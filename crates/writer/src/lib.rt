@@ -7,13 +7,14 @@
 // One walk serves all kinds of records: what stands before, between and after them is looked up by their kinds (specs/Walk.antt). Every
 // token has its space in front, but the first of a line.
 #![tactic(auto)]
+
 ghost use Rattle.std.specs.Prelude.{◌≡◌, ◌≤◌, ◌<◌};
 ghost use Rattle.lexer.specs.Tokens.{Kind};
 ghost use Rattle.spelling.specs.Spelling.{quoted, spell};
 ghost use Rattle.tree.specs.Promise.{count_of, word_at};
 ghost use Rattle.writer.specs.Promise.{Lent, row_at, Run, Stored, WroteNormal, WroteNormalWithin};
 ghost use Rattle.output.specs.Promise.{Wrote};
-ghost use Rattle.writer.specs.Walk.{text_for, expression_commas, list_commas, expression_opens, node_opens, list_opens, list_shuts, expression_tails, source_tails, name_tails, prop_words, external_words, specialize_words, sequence_words, set_words, class_words, kind_words, prec_words, part_ends, repeat_words, list_ends, kind_ends, dialect_ends, detect_words, class as classD, comma, opens, new_line, separator, between, source, link, tail, setting as settingD, in_brackets, is_line, tokenless, lead, ends, before, spelled, after, own, block_end, close, last_at, front, back, WroteOne, WroteRun, closing};
+ghost use Rattle.writer.specs.Walk.{text_for, expression_commas, list_commas, expression_opens, node_opens, list_opens, list_shuts, expression_tails, source_tails, name_tails, prop_words, external_words, specialize_words, sequence_words, set_words, class_words, kind_words, prec_words, part_ends, repeat_words, list_ends, kind_ends, dialect_ends, detect_words, class as class_d, comma, opens, new_line, separator, between, source, link, tail, setting as setting_d, in_brackets, is_line, tokenless, lead, ends, before, spelled, after, own, block_end, close, last_at, front, back, WroteOne, WroteRun, closing};
 
 use output::{put, put_codes, put_quoted, upto, wide};
 use tree::{count, first, is_expression, kind_before, text, word};
@@ -36,7 +37,7 @@ const CHILDREN: usize = 6;
 
 // Kinds whose records stand in one list have one number.
 fn class(kind: u32) -> u32
-    ensures { result ≡ classD kind }
+    ensures { result ≡ class_d kind }
 {
     if is_expression(kind) {
         return 30;
@@ -49,7 +50,7 @@ fn class(kind: u32) -> u32
 
 // How children stand in a record: in lines, in arms, in slots, or otherwise.
 fn setting(parent: u32) -> u32
-    ensures { result ≡ settingD parent }
+    ensures { result ≡ setting_d parent }
 {
     match parent {
         1 => 1,

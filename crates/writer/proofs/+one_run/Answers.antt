@@ -1,0 +1,76 @@
+-- `writer::one` and `writer::run` meet their contracts. Assumes nothing.
+use Prim.Native.Nat.{◌/◌}
+use mathlib.Core.Path.{◌∙◌}
+use native.Mathlib.Omega.{arith}
+use Rattle.output.proofs.Writes.{wrote_none, then}
+use Rattle.writer.proofs.Small.{bounded, row_small, front-small, back-small}
+use Rattle.writer.proofs.Runs.{text-none, only, branch-says, right, mid-first, left, mid-low, halves, run_small, run-few, recount}
+use Rattle.writer.proofs.+one_run.Goals as goal
+
+pub one-run-n-requires : goal.one-run-n-requires
+one-run-n-requires t c = (
+  omega (arith, c.decreases, c.children.ensures, run-few c.requires.3, c.requires.0.few),
+  (c.requires.0, c.requires.2, omega arith, recount c.children.ensures c.requires.3),
+)
+
+pub one-overflow_add-n : goal.one-overflow_add-n
+one-overflow_add-n t c =
+    let kids = recount c.children.ensures c.requires.3 in
+    omega (arith, c.requires.0.few, bounded c.put_front-n.ensures (front-small _ _ _), row_small c.requires.0 c.args.parent, row_small c.requires.0 c.args.i, run_small c.requires.0 _ _ kids (c.run-n.ensures kids))
+
+pub one-overflow_add-result : goal.one-overflow_add-result
+one-overflow_add-result t c =
+    let kids = recount c.children.ensures c.requires.3 in
+    omega (arith, c.requires.0.few, bounded c.put_front-n.ensures (front-small _ _ _), row_small c.requires.0 c.args.parent, row_small c.requires.0 c.args.i, run_small c.requires.0 _ _ kids (c.run-n.ensures kids), bounded c.put_back.ensures (back-small _ _ _))
+
+pub one-returns : goal.one-returns
+one-returns t c = λ s.
+    rw (branch-says _ _ _ s) (then (then c.put_front-n.ensures c.upto-a.ensures (c.run-n.ensures (recount c.children.ensures s))) c.upto-b.ensures c.put_back.ensures)
+
+pub run-returns-then-count-eq0 : goal.run-returns-then-count-eq0
+run-returns-then-count-eq0 t c = λ s. rw (text-none _ _ s c.if-count-eq0.true) (wrote_none _)
+
+pub run-overflow_sub-end : goal.run-overflow_sub-end
+run-overflow_sub-end t c = omega (arith, (only c.requires.3 c.if-count-eq1.true).positive)
+
+pub run-one-requires : goal.run-one-requires
+run-one-requires t c =
+    let o = only c.requires.3 c.if-count-eq1.true in
+    (omega (arith, c.decreases, o.positive), (c.requires.0, c.requires.1, omega (arith, c.requires.2, o.positive), o.kids))
+
+pub run-returns-then-count-eq1 : goal.run-returns-then-count-eq1
+run-returns-then-count-eq1 t c = λ s. rw ((only s c.if-count-eq1.true).says _ _) (c.one.ensures (only s c.if-count-eq1.true).kids)
+
+pub run-run-n-requires : goal.run-run-n-requires
+run-run-n-requires t c =
+    let s = c.requires.3 in
+    let half = c.args.count / 2 in
+    let m = mid-first s half (omega arith) in
+    let low = mid-low s half (omega arith) (omega arith) in (
+      omega (arith, c.decreases, c.requires.0.few, c.requires.2, run-few s, c.first-mid.ensures, m, low),
+      (c.requires.0, c.requires.1, omega (arith, c.requires.2, c.first-mid.ensures, m, low), left s half (omega arith) (c.first-mid.ensures ∙ m)),
+    )
+
+pub run-kind_before-requires : goal.run-kind_before-requires
+run-kind_before-requires t c =
+    let s = c.requires.3 in
+    let half = c.args.count / 2 in
+    omega (arith, c.requires.2, c.first-mid.ensures, mid-first s half (omega arith), mid-low s half (omega arith) (omega arith))
+
+pub run-run-requires : goal.run-run-requires
+run-run-requires t c = (omega (arith, c.decreases), (c.requires.0, c.requires.1, c.requires.2, right c.requires.3 (c.args.count / 2) (omega arith)))
+
+pub run-overflow_add-result : goal.run-overflow_add-result
+run-overflow_add-result t c =
+    let s = c.requires.3 in
+    let half = c.args.count / 2 in
+    let m = mid-first s half (omega arith) in
+    let lefts = left s half (omega arith) (c.first-mid.ensures ∙ m) in
+    let rights = right s half (omega arith) in
+    omega (arith, c.requires.0.few, c.requires.2, c.first-mid.ensures, m, mid-low s half (omega arith) (omega arith), run_small c.requires.0 _ _ lefts (c.run-n.ensures lefts), run_small c.requires.0 _ _ rights (c.run.ensures rights))
+
+pub run-returns : goal.run-returns
+run-returns t c =
+    let half = c.args.count / 2 in
+    λ s. let m = c.first-mid.ensures ∙ mid-first s half (omega arith) in
+    rw (halves s half (omega arith) _ _ m (omega arith)) (then (c.run-n.ensures (left s half (omega arith) m)) c.upto-a.ensures (rw (c.class.ensures, c.kind_before.ensures) at (c.run.ensures (right s half (omega arith)))))

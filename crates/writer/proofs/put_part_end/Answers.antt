@@ -1,0 +1,12 @@
+-- `writer::put_part_end` meets its contract: an arm for each number of the table, and the rest. Assumes nothing.
+use Rattle.writer.specs.Walk.{text_for, part_ends}
+use Rattle.writer.proofs.Tables.{no_entry}
+use Rattle.writer.proofs.put_part_end.Goals as goal
+
+pub returns-in-7 : goal.returns-in-7
+unfolding text_for
+returns-in-7 c = rw c.in-7.is c.put.ensures
+
+pub returns-in_default : goal.returns-in_default
+unfolding text_for
+returns-in_default c = no_entry part_ends _ _ c.in_default.in_default-own.rest
