@@ -1,7 +1,10 @@
+-- What was read is printed, which is what all of the input prints.
+use Rattle.std.proofs.Common.{◌≡◌, arith, length}
 use Rattle.normal.proofs.Whole.{prints-whole, under-context, on-ok}
 use Rattle.normal.proofs.run.Goals as goal
 
 pub returns : goal.returns
 returns g c =
-    under-context c.print.result c.context-2.result _ _ c.context-2.ensures
-    (on-ok c.print.result _ _ (prints-whole _ _ c.read_all.result c.in_ok-n.n c.read_all.new.buf c.in_ok-n.ensures c.read_all.ensures.within c.read_all.ensures.bytes c.read_all.auto.buf _ _) c.print.ensures)
+    let room : length c.read_all.new.buf ≡ 65536 = omega (arith, c.read_all.auto.buf) in
+    let prints = prints-whole _ _ c.read_all.result c.in_ok-n.n c.read_all.new.buf c.in_ok-n.ensures c.read_all.ensures.within c.read_all.ensures.bytes room _ _ in
+    under-context c.print.result c.context-2.result _ _ c.context-2.ensures (on-ok c.print.result _ _ prints c.print.ensures)
