@@ -80,8 +80,8 @@ unfolding flat
 last xs = sym (append-nil xs)
 
 module _ (b : Block) (ms : List (MemberOf b)) where
-  abbrev first_element : ℕ → List Node
-  first_element i = flat nodes (groups_of (kind_of b) (branches_of b) (take i (kinds_of b)) ms)
+  abbrev stored_before : ℕ → List Node
+  stored_before i = flat nodes (groups_of (kind_of b) (branches_of b) (take i (kinds_of b)) ms)
 
   abbrev group_of : ℕ → List Node
   group_of g = flat nodes (group_at (place_of b) (branches_of b) g ms)
@@ -89,14 +89,14 @@ module _ (b : Block) (ms : List (MemberOf b)) where
   abbrev every : List Node
   every = flat nodes (groups_of (kind_of b) (branches_of b) (kinds_of b) ms)
 
-  first-none : first_element 0 ≡ []
+  first-none : stored_before 0 ≡ []
   unfolding groups_of flat
   first-none = refl
 
-  first_on : (i : ℕ) → i < block_count → first_element (suc i) ≡ first_element i ++ group_of i
+  first_on : (i : ℕ) → i < block_count → stored_before (suc i) ≡ stored_before i ++ group_of i
   first_on i h = go (dec_lt i (length (kinds_of b)))
     where
-      go : Dec (i < length (kinds_of b)) → first_element (suc i) ≡ first_element i ++ group_of i
+      go : Dec (i < length (kinds_of b)) → stored_before (suc i) ≡ stored_before i ++ group_of i
       go (yes l) = nodes-on (kind_of b) (branches_of b) (kinds_of b) (kinds-distinct b) (kinds_nonzero b) i l ms
       go (no l) =
           let a : take (suc i) (kinds_of b) ≡ kinds_of b = take_all (suc i) (kinds_of b) (omega arith) in
@@ -104,7 +104,7 @@ module _ (b : Block) (ms : List (MemberOf b)) where
           let d = none-behind b i (omega arith) ms in
           rw (a, c, d) (last every)
 
-  first-all : first_element block_count ≡ every
+  first-all : stored_before block_count ≡ every
   first-all = let z = kinds-few b in rw (take_all block_count (kinds_of b) (omega arith))
 
 -- ------------------------------------------------------------------ the first pass
@@ -200,7 +200,7 @@ module _ {b : Block} {s : List ℕ} {t : Current} {n x : ℕ} (r : Roomy s t n x
 
   words-sum : sum ps ≡ m
   words-sum =
-      let a = sizes-are in_words (first_element b found) (group_of b found) block_count (first-none b found) (first_on b found) ps words-room word-sizes block_count (omega arith) in
+      let a = sizes-are in_words (stored_before b found) (group_of b found) block_count (first-none b found) (first_on b found) ps words-room word-sizes block_count (omega arith) in
       let c = ap sum (take_all block_count ps (let k = all_words in omega arith)) in
       let d = ap in_words.size (first-all b found) in
       let e = taken-words in
@@ -208,7 +208,7 @@ module _ {b : Block} {s : List ℕ} {t : Current} {n x : ℕ} (r : Roomy s t n x
 
   bytes-sum : sum qs ≡ y
   bytes-sum =
-      let a = sizes-are in_bytes (first_element b found) (group_of b found) block_count (first-none b found) (first_on b found) qs bytes-room byte-sizes block_count (omega arith) in
+      let a = sizes-are in_bytes (stored_before b found) (group_of b found) block_count (first-none b found) (first_on b found) qs bytes-room byte-sizes block_count (omega arith) in
       let c = ap sum (take_all block_count qs (let k = all-bytes in omega arith)) in
       let d = ap in_bytes.size (first-all b found) in
       let e = taken-bytes in
@@ -282,11 +282,11 @@ module _ {b : Block} {s : List ℕ} {t : Current} {n x : ℕ} (r : Roomy s t n x
       fills : Fills (place_of b) (branches_of b) block_count found ps₁ qs₁ ps₂ qs₂ ws ts vs us
       fills = let q : k.gathers.members ≡ found = together k.gathers.gives g.gathers.gives in rw q at k.fills
 
-      word-places : (i : ℕ) → i < block_count → get_or ps₁ i 0 ≡ n + in_words.size (first_element b found i)
-      word-places = lined-are in_words (first_element b found) (group_of b found) block_count (first-none b found) (first_on b found) n ps e₁ words-room word-sizes
+      word-places : (i : ℕ) → i < block_count → get_or ps₁ i 0 ≡ n + in_words.size (stored_before b found i)
+      word-places = lined-are in_words (stored_before b found) (group_of b found) block_count (first-none b found) (first_on b found) n ps e₁ words-room word-sizes
 
-      byte-places : (i : ℕ) → i < block_count → get_or qs₁ i 0 ≡ x + in_bytes.size (first_element b found i)
-      byte-places = lined-are in_bytes (first_element b found) (group_of b found) block_count (first-none b found) (first_on b found) x qs e₂ bytes-room byte-sizes
+      byte-places : (i : ℕ) → i < block_count → get_or qs₁ i 0 ≡ x + in_bytes.size (stored_before b found i)
+      byte-places = lined-are in_bytes (stored_before b found) (group_of b found) block_count (first-none b found) (first_on b found) x qs e₂ bytes-room byte-sizes
 
       spread_stores : Stores (every b found) (lent n ws x ts) (lent (n + m) vs (x + y) us)
       spread_stores =
@@ -300,10 +300,10 @@ module _ {b : Block} {s : List ℕ} {t : Current} {n x : ℕ} (r : Roomy s t n x
             same-words = fills.records.same;
             same-texts = fills.texts.same;
             records = λ h.
-                groups-written in_words (first_element b found) (group_of b found) block_count (first-none b found) (first_on b found) n x ps₁ qs₁ word-places byte-places (omega arith) fills.records
+                groups-written in_words (stored_before b found) (group_of b found) block_count (first-none b found) (first_on b found) n x ps₁ qs₁ word-places byte-places (omega arith) fills.records
                 ∙ rw (first-all b found);
             bytes = λ h.
-                groups-written in_bytes (first_element b found) (group_of b found) block_count (first-none b found) (first_on b found) x x qs₁ qs₁ byte-places byte-places (omega arith) fills.texts
+                groups-written in_bytes (stored_before b found) (group_of b found) block_count (first-none b found) (first_on b found) x x qs₁ qs₁ byte-places byte-places (omega arith) fills.texts
                 ∙ rw (first-all b found);
           }
 

@@ -37,7 +37,7 @@ use Rattle.reader.proofs.GrammarGroups.{top_one, grammar_children, grammar-nodes
 use Rattle.reader.proofs.TopPlaces.{stored-distinct}
 use Rattle.reader.proofs.Filling.{put-words, put-texts}
 use Rattle.reader.proofs.GroupPlaces.{in_words, in_bytes, group_is}
-use Rattle.reader.proofs.WholeFilled.{stored-positive, first_element, group_of, sum_is, lined-is, places_all, place-first, place_eleven, place-behind, places_few, all-written}
+use Rattle.reader.proofs.WholeFilled.{stored-positive, stored_before, group_of, sum_is, lined-is, places_all, place-first, place_eleven, place-behind, places_few, all-written}
 use Rattle.reader.proofs.ParseLaws.{words-of, texts-of, top_weighs, grammar-words, grammar-bytes, grammar-read}
 
 -- written from the first on
@@ -75,10 +75,10 @@ module _ {s : List ℕ} {t last : Current} {noted : Noted} {count : ℕ} {ps qs 
   bytes_small = let a = bytes-sum in let b = known-bound.1 in omega arith
 
   module _ {ps₁ qs₁ : List ℕ} (e : ps₁ ≡ lined_up 0 ps) (f : qs₁ ≡ lined_up 0 qs) where
-    words-at : get_or ps₁ 11 0 ≡ width * length (first_element ms 11)
+    words-at : get_or ps₁ 11 0 ≡ width * length (stored_before ms 11)
     words-at = lined-is in_words ms ps known.sizes.words-all known.sizes.words_are e 11 (omega arith)
 
-    bytes-at : get_or qs₁ 11 0 ≡ length (texts_of (first_element ms 11))
+    bytes-at : get_or qs₁ 11 0 ≡ length (texts_of (stored_before ms 11))
     bytes-at = lined-is in_bytes ms qs known.sizes.bytes-all known.sizes.bytes-are f 11 (omega arith)
 
     pub names_at : (get_or ps₁ 11 0 ≤ 0x100000) × (get_or qs₁ 11 0 ≤ 0x100000)
@@ -163,26 +163,26 @@ module _ {s : List ℕ} {t last : Current} {noted : Noted} {count : ℕ} {ps qs 
         children : grammar_children ms ≡ count
         children = let a = top_weighs ms number in let b = known.counted in omega arith
 
-        whole-nodes : nodes (grammar_branch (grammar_of (start_in t) ms)) ≡ first_element ms 11 ++ naming ++ group_of ms 11 ++ own
+        whole-nodes : nodes (grammar_branch (grammar_of (start_in t) ms)) ≡ stored_before ms 11 ++ naming ++ group_of ms 11 ++ own
         whole-nodes = grammar-nodes (start_in t) ms ∙ rw (known.noted.delim, children, props-are)
 
-        words_are : grammar_words (grammar_of (start_in t) ms) ≡ words (records_from 0 (first_element ms 11 ++ naming ++ group_of ms 11 ++ own))
+        words_are : grammar_words (grammar_of (start_in t) ms) ≡ words (records_from 0 (stored_before ms 11 ++ naming ++ group_of ms 11 ++ own))
         words_are = words-of (grammar_of (start_in t) ms) ∙ ap (λ (l : List Node). words (records_from 0 l)) whole-nodes
 
-        texts-are : grammar_texts (grammar_of (start_in t) ms) ≡ texts_of (first_element ms 11 ++ naming ++ group_of ms 11 ++ own)
+        texts-are : grammar_texts (grammar_of (start_in t) ms) ≡ texts_of (stored_before ms 11 ++ naming ++ group_of ms 11 ++ own)
         texts-are = texts-of (grammar_of (start_in t) ms) ∙ ap texts_of whole-nodes
 
         module _ {p v j : ℕ} {vs₃ : List ℕ} (pe : p ≡ start_in t) (ve : v ≡ flag noted.delim) (put : StoresPlain (node 1 p [] v 0 count) (get_or ps₂ 11 0) vs₂ j vs₃) where
           stores-own : Stores own (lent (get_or ps₂ 11 0) vs₂ (get_or qs₂ 11 0) us₂) (lent j vs₃ (get_or qs₂ 11 0) us₂)
           stores-own = rw (pe, ve) at (put.stores (get_or qs₂ 11 0) us₂)
 
-          words_fit : width * length (first_element ms 11 ++ naming ++ group_of ms 11 ++ own) ≤ length ws
-          words_fit = let a = known.words_fit in let b = ap length words_are in let c = words-length 0 (first_element ms 11 ++ naming ++ group_of ms 11 ++ own) in omega arith
+          words_fit : width * length (stored_before ms 11 ++ naming ++ group_of ms 11 ++ own) ≤ length ws
+          words_fit = let a = known.words_fit in let b = ap length words_are in let c = words-length 0 (stored_before ms 11 ++ naming ++ group_of ms 11 ++ own) in omega arith
 
-          bytes_fit : length (texts_of (first_element ms 11 ++ naming ++ group_of ms 11 ++ own)) ≤ length ts
+          bytes_fit : length (texts_of (stored_before ms 11 ++ naming ++ group_of ms 11 ++ own)) ≤ length ts
           bytes_fit = let a = known.bytes_fit in let b = ap length texts-are in omega arith
 
-          words-written : vs₃ ≡ written ws 0 (words (records_from 0 (first_element ms 11 ++ naming ++ group_of ms 11 ++ own)))
+          words-written : vs₃ ≡ written ws 0 (words (records_from 0 (stored_before ms 11 ++ naming ++ group_of ms 11 ++ own)))
           words-written =
               all-written in_words ms naming own words-at bytes-at names.stores.words-end names.stores.texts-end words-end bytes-end (set ps₁ 11 k) (set qs₁ 11 x)
               (place-first in_words ms ps known.sizes.words-all known.sizes.words_are e k)
@@ -192,7 +192,7 @@ module _ {s : List ℕ} {t last : Current} {noted : Noted} {count : ℕ} {ps qs 
               (place-behind in_words ms ps known.sizes.words-all known.sizes.words_are e k naming own)
               words_fit (put-words names.stores) fills.records (put-words stores-own)
 
-          bytes-written : us₂ ≡ written ts 0 (texts_of (first_element ms 11 ++ naming ++ group_of ms 11 ++ own))
+          bytes-written : us₂ ≡ written ts 0 (texts_of (stored_before ms 11 ++ naming ++ group_of ms 11 ++ own))
           bytes-written =
               all-written in_bytes ms naming own bytes-at bytes-at names.stores.texts-end names.stores.texts-end bytes-end bytes-end (set qs₁ 11 x) (set qs₁ 11 x)
               (place-first in_bytes ms qs known.sizes.bytes-all known.sizes.bytes-are f x)

@@ -77,8 +77,8 @@ module _ (c : Coding) where
 
 -- ------------------------------------------------------------------ sizes and places
 
-abbrev pub first_element : List (Member ℕ) → ℕ → List Node
-first_element ms i = flat nodes (groups_of member_kind member_branches (take i stored_kinds) ms)
+abbrev pub stored_before : List (Member ℕ) → ℕ → List Node
+stored_before ms i = flat nodes (groups_of member_kind member_branches (take i stored_kinds) ms)
 
 abbrev pub group_of : List (Member ℕ) → ℕ → List Node
 group_of ms g = flat nodes (group_at member_place member_branches g ms)
@@ -87,19 +87,19 @@ behind-none : (ms : List (Member ℕ)) → group_of ms 12 ≡ []
 unfolding flat
 behind-none ms = ap (flat nodes) (none-behind ms)
 
-first-none : (ms : List (Member ℕ)) → first_element ms 0 ≡ []
+first-none : (ms : List (Member ℕ)) → stored_before ms 0 ≡ []
 unfolding flat groups_of
 first-none ms = refl
 
-first_on : (ms : List (Member ℕ)) (i : ℕ) → i < 12 → first_element ms (suc i) ≡ first_element ms i ++ group_of ms i
+first_on : (ms : List (Member ℕ)) (i : ℕ) → i < 12 → stored_before ms (suc i) ≡ stored_before ms i ++ group_of ms i
 first_on ms i l = nodes-on member_kind member_branches stored_kinds stored-distinct stored-positive i l ms
 
 module _ (c : Coding) (ms : List (Member ℕ)) (xs : List ℕ) (all : length xs ≡ 13) (are : (g : ℕ) → g < 13 → get_or xs g 0 ≡ c.size (group_of ms g)) where
-  sums_are : (i : ℕ) → i ≤ 12 → sum (take i xs) ≡ c.size (first_element ms i)
-  sums_are i h = sizes-are c (first_element ms) (group_of ms) 12 (first-none ms) (first_on ms) xs (omega arith) (λ g b. are g (omega arith)) i h
+  sums_are : (i : ℕ) → i ≤ 12 → sum (take i xs) ≡ c.size (stored_before ms i)
+  sums_are i h = sizes-are c (stored_before ms) (group_of ms) 12 (first-none ms) (first_on ms) xs (omega arith) (λ g b. are g (omega arith)) i h
 
   -- all of them together
-  pub sum_is : sum xs ≡ c.size (first_element ms 12)
+  pub sum_is : sum xs ≡ c.size (stored_before ms 12)
   sum_is =
       let a = sums_are 12 (omega arith) in
       let b = sum-suc xs 12 (omega arith) in
@@ -112,7 +112,7 @@ module _ (c : Coding) (ms : List (Member ℕ)) (xs : List ℕ) (all : length xs 
     lined-all : length ys ≡ 13
     lined-all = ap length lined ∙ lined-length 0 xs ∙ all
 
-    pub lined-is : (g : ℕ) → g ≤ 12 → get_or ys g 0 ≡ c.size (first_element ms g)
+    pub lined-is : (g : ℕ) → g ≤ 12 → get_or ys g 0 ≡ c.size (stored_before ms g)
     lined-is g h = let a = ap (λ (l : List ℕ). get_or l g 0) lined ∙ lined-at 0 xs g (omega arith) in let b = sums_are g h in omega arith
 
     -- the last group begins behind the names
@@ -120,22 +120,22 @@ module _ (c : Coding) (ms : List (Member ℕ)) (xs : List ℕ) (all : length xs 
       pub places_all : length (set ys 11 k) ≡ 13
       places_all = length-set ys 11 k ∙ lined-all
 
-      pub place-first : (g : ℕ) → g < 11 → get_or (set ys 11 k) g 0 ≡ c.size (first_element ms g)
+      pub place-first : (g : ℕ) → g < 11 → get_or (set ys 11 k) g 0 ≡ c.size (stored_before ms g)
       place-first g h = get_or-set_other ys 11 g k 0 (λ e. omega arith) ∙ lined-is g (omega arith)
 
       pub place_eleven : get_or (set ys 11 k) 11 0 ≡ k
       place_eleven = let a = lined-all in get_or-set_same ys 11 k 0 (omega arith)
 
-      place_twelve : get_or (set ys 11 k) 12 0 ≡ c.size (first_element ms 12)
+      place_twelve : get_or (set ys 11 k) 12 0 ≡ c.size (stored_before ms 12)
       place_twelve = get_or-set_other ys 11 12 k 0 (λ e. omega arith) ∙ lined-is 12 (omega arith)
 
-      pub place-behind : (names own : List Node) → get_or (set ys 11 k) 12 0 ≤ c.size (first_element ms 11 ++ names ++ group_of ms 11 ++ own)
+      pub place-behind : (names own : List Node) → get_or (set ys 11 k) 12 0 ≤ c.size (stored_before ms 11 ++ names ++ group_of ms 11 ++ own)
       place-behind names own =
           let a = place_twelve in
-          let b = ap c.size (first_on ms 11 (omega arith)) ∙ size-append c (first_element ms 11) (group_of ms 11) in
-          let d = size-append c (first_element ms 11 ++ names ++ group_of ms 11) own in
-          let f = size-append c (first_element ms 11 ++ names) (group_of ms 11) in
-          let g = size-append c (first_element ms 11) names in
+          let b = ap c.size (first_on ms 11 (omega arith)) ∙ size-append c (stored_before ms 11) (group_of ms 11) in
+          let d = size-append c (stored_before ms 11 ++ names ++ group_of ms 11) own in
+          let f = size-append c (stored_before ms 11 ++ names) (group_of ms 11) in
+          let g = size-append c (stored_before ms 11) names in
           omega arith
 
       pub places_few : (most : ℕ) → sum xs ≤ most → k ≤ most → (g : ℕ) → get_or (set ys 11 k) g 0 ≤ most
@@ -151,51 +151,51 @@ module _ (c : Coding) (ms : List (Member ℕ)) (xs : List ℕ) (all : length xs 
 
 module _ (c : Coding) (ms : List (Member ℕ)) (names own : List Node) where
   abbrev pub every : List Node
-  every = first_element ms 11 ++ names ++ group_of ms 11 ++ own
+  every = stored_before ms 11 ++ names ++ group_of ms 11 ++ own
 
   -- where the names, the last group and the record behind it begin, in the list and in the bytes
-  module _ {m k i y x w : ℕ} (em : m ≡ c.size (first_element ms 11)) (ey : y ≡ length (texts_of (first_element ms 11))) (ek : k ≡ m + c.size names) (ex : x ≡ y + length (texts_of names))
+  module _ {m k i y x w : ℕ} (em : m ≡ c.size (stored_before ms 11)) (ey : y ≡ length (texts_of (stored_before ms 11))) (ek : k ≡ m + c.size names) (ex : x ≡ y + length (texts_of names))
       (ei : i ≡ k + c.size (group_of ms 11)) (ew : w ≡ x + length (texts_of (group_of ms 11))) where
     texts-length : (a b : List Node) → length (texts_of (a ++ b)) ≡ length (texts_of a) + length (texts_of b)
     texts-length a b = ap length (texts-append a b) ∙ length-append (texts_of a) (texts_of b)
 
-    last-at : k ≡ c.size (first_element ms 11 ++ names)
-    last-at = let a = size-append c (first_element ms 11) names in omega arith
+    last-at : k ≡ c.size (stored_before ms 11 ++ names)
+    last-at = let a = size-append c (stored_before ms 11) names in omega arith
 
-    last-from : x ≡ length (texts_of (first_element ms 11 ++ names))
-    last-from = let a = texts-length (first_element ms 11) names in omega arith
+    last-from : x ≡ length (texts_of (stored_before ms 11 ++ names))
+    last-from = let a = texts-length (stored_before ms 11) names in omega arith
 
-    own_at : i ≡ c.size (first_element ms 11 ++ names ++ group_of ms 11)
-    own_at = let a = size-append c (first_element ms 11 ++ names) (group_of ms 11) in let b = last-at in omega arith
+    own_at : i ≡ c.size (stored_before ms 11 ++ names ++ group_of ms 11)
+    own_at = let a = size-append c (stored_before ms 11 ++ names) (group_of ms 11) in let b = last-at in omega arith
 
-    own-from : w ≡ length (texts_of (first_element ms 11 ++ names ++ group_of ms 11))
-    own-from = let a = texts-length (first_element ms 11 ++ names) (group_of ms 11) in let b = last-from in omega arith
+    own-from : w ≡ length (texts_of (stored_before ms 11 ++ names ++ group_of ms 11))
+    own-from = let a = texts-length (stored_before ms 11 ++ names) (group_of ms 11) in let b = last-from in omega arith
 
     -- the parts of the whole
     record Parts (whole : List ℕ) : Type 0 where
-      front : Holds whole 0 (c.code 0 (first_element ms 11))
+      front : Holds whole 0 (c.code 0 (stored_before ms 11))
       naming : Holds whole m (c.code y names)
       last : Holds whole k (c.code x (group_of ms 11))
       behind : Holds whole i (c.code w own)
 
     parts-of : {whole : List ℕ} → Holds whole 0 (c.code 0 every) → Parts whole
     parts-of h =
-        let a = holds-split c (first_element ms 11 ++ names ++ group_of ms 11) own own_at own-from h in
-        let b = holds-split c (first_element ms 11 ++ names) (group_of ms 11) last-at last-from a.0 in
-        let d = holds-split c (first_element ms 11) names em ey b.0 in
+        let a = holds-split c (stored_before ms 11 ++ names ++ group_of ms 11) own own_at own-from h in
+        let b = holds-split c (stored_before ms 11 ++ names) (group_of ms 11) last-at last-from a.0 in
+        let d = holds-split c (stored_before ms 11) names em ey b.0 in
         record { front = d.0; naming = d.1; last = b.1; behind = a.1 }
 
     whole_of : {whole : List ℕ} → Parts whole → Holds whole 0 (c.code 0 every)
     whole_of p =
-        holds_join c (first_element ms 11 ++ names ++ group_of ms 11) own own_at own-from
-        (holds_join c (first_element ms 11 ++ names) (group_of ms 11) last-at last-from (holds_join c (first_element ms 11) names em ey p.front p.naming) p.last) p.behind
+        holds_join c (stored_before ms 11 ++ names ++ group_of ms 11) own own_at own-from
+        (holds_join c (stored_before ms 11 ++ names) (group_of ms 11) last-at last-from (holds_join c (stored_before ms 11) names em ey p.front p.naming) p.last) p.behind
 
-    module _ (ps qs : List ℕ) (firsts : (g : ℕ) → g < 11 → get_or ps g 0 ≡ c.size (first_element ms g)) (froms : (g : ℕ) → g < 11 → get_or qs g 0 ≡ length (texts_of (first_element ms g)))
+    module _ (ps qs : List ℕ) (firsts : (g : ℕ) → g < 11 → get_or ps g 0 ≡ c.size (stored_before ms g)) (froms : (g : ℕ) → g < 11 → get_or qs g 0 ≡ length (texts_of (stored_before ms g)))
         (eleven : get_or ps 11 0 ≡ k) (eleven-from : get_or qs 11 0 ≡ x) (twelve : get_or ps 12 0 ≤ c.size every) where
-      place_is : (g : ℕ) → g < 11 → get_or ps g 0 ≡ 0 + c.size (first_element ms g)
+      place_is : (g : ℕ) → g < 11 → get_or ps g 0 ≡ 0 + c.size (stored_before ms g)
       place_is g l = let a = firsts g l in omega arith
 
-      from_place_lem : (g : ℕ) → g < 11 → get_or qs g 0 ≡ 0 + length (texts_of (first_element ms g))
+      from_place_lem : (g : ℕ) → g < 11 → get_or qs g 0 ≡ 0 + length (texts_of (stored_before ms g))
       from_place_lem g l = let a = froms g l in omega arith
 
       -- the whole holds each group
@@ -205,13 +205,13 @@ module _ (c : Coding) (ms : List (Member ℕ)) (names own : List Node) where
           p : Parts whole
           p = parts-of h
 
-          eleven_is : (n : ℕ) → n ≡ 11 → Holds whole 0 (c.code 0 (first_element ms n))
+          eleven_is : (n : ℕ) → n ≡ 11 → Holds whole 0 (c.code 0 (stored_before ms n))
           eleven_is n e = rw e p.front
 
           go : Dec (g < 11) → Dec (g < 12) → Holds whole (get_or ps g 0) (c.code (get_or qs g 0) (group_of ms g))
           go (yes a) b =
-              let f = front_less c (first_element ms) (group_of ms) 12 (first-none ms) (first_on ms) 0 0 whole (10 - g) (suc g) (omega arith) (eleven_is (suc g + (10 - g)) (omega arith)) in
-              let t = group_held c (first_element ms) (group_of ms) 12 (first-none ms) (first_on ms) 0 0 whole g (omega arith) f in
+              let f = front_less c (stored_before ms) (group_of ms) 12 (first-none ms) (first_on ms) 0 0 whole (10 - g) (suc g) (omega arith) (eleven_is (suc g + (10 - g)) (omega arith)) in
+              let t = group_held c (stored_before ms) (group_of ms) 12 (first-none ms) (first_on ms) 0 0 whole g (omega arith) f in
               rw (place_is g a, from_place_lem g a) t
           go (no a) (yes b) = let e : g ≡ 11 = omega arith in rw (e, eleven, eleven-from) p.last
           go (no a) (no b) =
@@ -258,11 +258,11 @@ module _ (c : Coding) (ms : List (Member ℕ)) (names own : List Node) where
         same_end : length vs₃ ≡ length whole
         same_end = let a = same_whole in let b = f.same in let e = o.same in omega arith
 
-        fronts : (j : ℕ) → j ≤ 11 → Holds vs₃ 0 (c.code 0 (first_element ms j))
+        fronts : (j : ℕ) → j ≤ 11 → Holds vs₃ 0 (c.code 0 (stored_before ms j))
         fronts zero h = holds-nothing c (first-none ms) (omega arith)
         fronts (suc j) h =
-            let t : Holds vs₃ (0 + c.size (first_element ms j)) (c.code (0 + length (texts_of (first_element ms j))) (group_of ms j)) = rw (place_is j (omega arith), from_place_lem j (omega arith)) at (filled_on j (omega arith)) in
-            front-more c (first_element ms) (group_of ms) 12 (first-none ms) (first_on ms) 0 0 vs₃ j (omega arith) (fronts j (omega arith)) t
+            let t : Holds vs₃ (0 + c.size (stored_before ms j)) (c.code (0 + length (texts_of (stored_before ms j))) (group_of ms j)) = rw (place_is j (omega arith), from_place_lem j (omega arith)) at (filled_on j (omega arith)) in
+            front-more c (stored_before ms) (group_of ms) 12 (first-none ms) (first_on ms) 0 0 vs₃ j (omega arith) (fronts j (omega arith)) t
 
         named-on : Holds vs₃ m (c.code y names)
         named-on =

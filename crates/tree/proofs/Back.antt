@@ -7,7 +7,7 @@ use mathlib.Core.List.{List, [], ◌∷◌, ◌++◌, map, append_assoc, append-
 use lib.ListN.{length, take, drop, length-append, length-take, length-drop}
 use Rattle.tree.specs.Records.{Row, Branch, branch, Branches, []ᴮ, ◌∷ᴮ◌, count, Node, nodes, nodes_all}
 use Rattle.tree.specs.OneTree.{kind_of, in_order}
-use Rattle.tree.specs.Promise.{word_at, node_at, At, All, first_element, kind_before, kinds_back}
+use Rattle.tree.specs.Promise.{word_at, node_at, At, All, first_place, kind_before, kinds_back}
 
 -- ------------------------------------------------------------------ one record back
 
@@ -21,23 +21,23 @@ unfolding kind_before
 kind-some ws zero h = absurd (h refl)
 kind-some ws (suc n) h = let e : suc n - 1 ≡ n = omega arith in rw e
 
-pub first-none : (ws : List ℕ) (end : ℕ) → first_element ws end 0 ≡ end
-unfolding first_element
+pub first-none : (ws : List ℕ) (end : ℕ) → first_place ws end 0 ≡ end
+unfolding first_place
 first-none ws zero = refl
 first-none ws (suc n) = refl
 
-first-suc : (ws : List ℕ) (end n : ℕ) → first_element ws (suc end) (suc n) ≡ first_element ws end (n + word_at ws end 6)
-unfolding first_element
+first-suc : (ws : List ℕ) (end n : ℕ) → first_place ws (suc end) (suc n) ≡ first_place ws end (n + word_at ws end 6)
+unfolding first_place
 first-suc ws end n = refl
 
-pub first-few : (ws : List ℕ) (end n : ℕ) → end < n → first_element ws end n ≡ 0
-unfolding first_element
+pub first-few : (ws : List ℕ) (end n : ℕ) → end < n → first_place ws end n ≡ 0
+unfolding first_place
 first-few ws zero n h = refl
 first-few ws (suc end) zero h = absurd (omega arith)
 first-few ws (suc end) (suc n) h = first-few ws end (n + word_at ws end 6) (omega arith)
 
-pub first_step : (ws : List ℕ) (end n : ℕ) → 0 < n → n ≤ end → first_element ws end n ≡ first_element ws (end - 1) (n - 1 + word_at ws (end - 1) 6)
-unfolding first_element
+pub first_step : (ws : List ℕ) (end n : ℕ) → 0 < n → n ≤ end → first_place ws end n ≡ first_place ws (end - 1) (n - 1 + word_at ws (end - 1) 6)
+unfolding first_place
 first_step ws zero n h g = absurd (omega arith)
 first_step ws (suc end) zero h g = absurd (omega arith)
 first_step ws (suc end) (suc n) h g =
@@ -45,8 +45,8 @@ first_step ws (suc end) (suc n) h g =
     let f : suc n - 1 ≡ n = omega arith in
     rw (e, f)
 
-pub first-low : (ws : List ℕ) (end n : ℕ) → first_element ws end n ≤ end
-unfolding first_element
+pub first-low : (ws : List ℕ) (end n : ℕ) → first_place ws end n ≤ end
+unfolding first_place
 first-low ws zero n = omega arith
 first-low ws (suc end) zero = omega arith
 first-low ws (suc end) (suc n) = omega (arith, first-low ws end (n + word_at ws end 6))
@@ -89,13 +89,13 @@ module _ (ws ts : List ℕ) where
   mutual
     unfolding nodes count
 
-    pub first-branch : (b : Branch) (lo n : ℕ) → All ws ts lo (nodes b) → first_element ws (lo + length (nodes b)) (suc n) ≡ first_element ws lo n
+    pub first-branch : (b : Branch) (lo n : ℕ) → All ws ts lo (nodes b) → first_place ws (lo + length (nodes b)) (suc n) ≡ first_place ws lo n
     first-branch (branch r bs) lo n a =
         let k : word_at ws (lo + length (nodes_all bs)) 6 ≡ count bs = ap (λ (x : Node). x.children) (root_at lo r bs a).is in
         let e : n + count bs ≡ count bs + n = omega arith in
         rw (past_root lo r bs, first-suc ws (lo + length (nodes_all bs)) n, k, e) (first-branches bs lo n (all_left lo (nodes_all bs) (record { row = r; children = count bs } ∷ []) a))
 
-    pub first-branches : (bs : Branches) (lo n : ℕ) → All ws ts lo (nodes_all bs) → first_element ws (lo + length (nodes_all bs)) (count bs + n) ≡ first_element ws lo n
+    pub first-branches : (bs : Branches) (lo n : ℕ) → All ws ts lo (nodes_all bs) → first_place ws (lo + length (nodes_all bs)) (count bs + n) ≡ first_place ws lo n
     first-branches []ᴮ lo n a = let e : lo + 0 ≡ lo = omega arith in let f : 0 + n ≡ n = omega arith in rw (e, f)
     first-branches (b ∷ᴮ bs) lo n a =
         let e : lo + length (nodes b ++ nodes_all bs) ≡ lo + length (nodes b) + length (nodes_all bs) = omega (arith, length-append (nodes b) (nodes_all bs)) in
@@ -118,7 +118,7 @@ nodes-before []ᴮ cs = refl
 nodes-before (b ∷ᴮ bs) cs = rw (nodes-before bs cs) (sym (append_assoc (nodes b) (nodes_all bs) (nodes_all cs)))
 
 -- among children, those before the last ones end where these begin
-pub first-last : (ws ts : List ℕ) (bs cs : Branches) (lo : ℕ) → All ws ts lo (nodes_all (before bs cs)) → first_element ws (lo + length (nodes_all (before bs cs))) (count cs) ≡ lo + length (nodes_all bs)
+pub first-last : (ws ts : List ℕ) (bs cs : Branches) (lo : ℕ) → All ws ts lo (nodes_all (before bs cs)) → first_place ws (lo + length (nodes_all (before bs cs))) (count cs) ≡ lo + length (nodes_all bs)
 first-last ws ts bs cs lo a =
     let e : lo + length (nodes_all (before bs cs)) ≡ lo + length (nodes_all bs) + length (nodes_all cs) = omega (arith, ap length (nodes-before bs cs), length-append (nodes_all bs) (nodes_all cs)) in
     let n : count cs ≡ count cs + 0 = omega arith in
@@ -144,7 +144,7 @@ module _ (ws ts : List ℕ) where
   kinds-back (b ∷ l) (suc n) h a =
       let e : length (flat l ++ nodes b) ≡ length (flat l) + length (nodes b) = length-append (flat l) (nodes b) in
       let r : All ws ts (length (flat l)) (nodes b) = let z : 0 + length (flat l) ≡ length (flat l) = omega arith in rw z at (all_right ws ts 0 (flat l) (nodes b) a) in
-      let f : first_element ws (length (flat l) + length (nodes b)) 1 ≡ length (flat l) = first-branch ws ts b (length (flat l)) 0 r ∙ first-none ws (length (flat l)) in
+      let f : first_place ws (length (flat l) + length (nodes b)) 1 ≡ length (flat l) = first-branch ws ts b (length (flat l)) 0 r ∙ first-none ws (length (flat l)) in
       rw (e, f, kind-last ws ts b (length (flat l)) r, kinds-back l n (omega arith) (all_left ws ts 0 (flat l) (nodes b) a))
 
   -- the one branch of a stack

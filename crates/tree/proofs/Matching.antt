@@ -13,7 +13,7 @@ use borrow.Author.Tests.{ne_eqb, lt-ltb, le-ltb}
 use Rattle.basics.specs.Basics.{among}
 use Rattle.basics.proofs.Tests.{impossible}
 use Rattle.tree.specs.OneTree.{Group, many, one, at_most_one, without, begins, matches}
-use Rattle.tree.specs.Promise.{first_element, kind_before, kinds_back, kinds_of, group_of, groups_in}
+use Rattle.tree.specs.Promise.{first_place, kind_before, kinds_back, kinds_of, group_of, groups_in}
 
 -- ------------------------------------------------------------------ groups
 
@@ -48,13 +48,13 @@ all-matched ws j zero = refl
 all-matched ws j (suc n) = sym (ne_eqb (suc n) 0 (λ e. omega arith))
 
 -- the rest of the children, where the branch before the last begins at i
-rest : (ws : List ℕ) (i j n : ℕ) → 0 < n → (0 < n - 1 → i ≡ first_element ws j 1) → drop 1 (kinds_back ws j n) ≡ kinds_back ws i (n - 1)
+rest : (ws : List ℕ) (i j n : ℕ) → 0 < n → (0 < n - 1 → i ≡ first_place ws j 1) → drop 1 (kinds_back ws j n) ≡ kinds_back ws i (n - 1)
 unfolding kinds_back
 rest ws i j zero h e = absurd (omega arith)
 rest ws i j (suc zero) h e = refl
 rest ws i j (suc (suc n)) h e =
     let f : suc (suc n) - 1 ≡ suc n = omega arith in
-    let g : i ≡ first_element ws j 1 = e (omega arith) in
+    let g : i ≡ first_place ws j 1 = e (omega arith) in
     rw (f, g)
 
 -- ------------------------------------------------------------------ the first group
@@ -103,7 +103,7 @@ module _ (ns ws : List ℕ) (g i j n : ℕ) (h : g < length ns) (nz : get_or ns 
   is-most k l = rw (groups-next ns g h nz, le-ltb (get_or ns g 0) 64 k, le-ltb (get_or ns g 0) 128 l)
 
   module _ (l : get_or ns g 0 < 64) where
-    pub many-child : begins (kinds_of (get_or ns g 0)) (kinds_back ws j n) ≡ true → (0 < n - 1 → i ≡ first_element ws j 1) → left_over ns ws g j n ≡ left_over ns ws g i (n - 1)
+    pub many-child : begins (kinds_of (get_or ns g 0)) (kinds_back ws j n) ≡ true → (0 < n - 1 → i ≡ first_place ws j 1) → left_over ns ws g j n ≡ left_over ns ws g i (n - 1)
     many-child e f =
         ap (λ (gs : List Group). matches gs (kinds_back ws j n)) (is-many l) ∙ many_yes (kinds_of (get_or ns g 0)) (groups_in (drop (g + 1) ns)) (kinds_back ws j n) e
         ∙ ap (matches (many (kinds_of (get_or ns g 0)) ∷ groups_in (drop (g + 1) ns))) (rest ws i j n (begun (kinds_of (get_or ns g 0)) ws j n e) f)
@@ -113,7 +113,7 @@ module _ (ns ws : List ℕ) (g i j n : ℕ) (h : g < length ns) (nz : get_or ns 
     many-over e = rw (is-many l) (many_no (kinds_of (get_or ns g 0)) (groups_in (drop (g + 1) ns)) (kinds_back ws j n) e)
 
   module _ (k : 64 ≤ get_or ns g 0) (l : get_or ns g 0 < 128) where
-    pub one-child : begins (kinds_of (get_or ns g 0 - 64)) (kinds_back ws j n) ≡ true → (0 < n - 1 → i ≡ first_element ws j 1) → left_over ns ws g j n ≡ left_over ns ws (g + 1) i (n - 1)
+    pub one-child : begins (kinds_of (get_or ns g 0 - 64)) (kinds_back ws j n) ≡ true → (0 < n - 1 → i ≡ first_place ws j 1) → left_over ns ws g j n ≡ left_over ns ws (g + 1) i (n - 1)
     one-child e f =
         rw (is_one k l) (one_yes (kinds_of (get_or ns g 0 - 64)) (groups_in (drop (g + 1) ns)) (kinds_back ws j n) e
         ∙ ap (matches (groups_in (drop (g + 1) ns))) (rest ws i j n (begun (kinds_of (get_or ns g 0 - 64)) ws j n e) f))
@@ -122,7 +122,7 @@ module _ (ns ws : List ℕ) (g i j n : ℕ) (h : g < length ns) (nz : get_or ns 
     one_missing e = rw (is_one k l) (one_no (kinds_of (get_or ns g 0 - 64)) (groups_in (drop (g + 1) ns)) (kinds_back ws j n) e)
 
   module _ (k : 64 ≤ get_or ns g 0) (l : 128 ≤ get_or ns g 0) where
-    pub most-child : begins (kinds_of (get_or ns g 0 - 128)) (kinds_back ws j n) ≡ true → (0 < n - 1 → i ≡ first_element ws j 1) → left_over ns ws g j n ≡ left_over ns ws (g + 1) i (n - 1)
+    pub most-child : begins (kinds_of (get_or ns g 0 - 128)) (kinds_back ws j n) ≡ true → (0 < n - 1 → i ≡ first_place ws j 1) → left_over ns ws g j n ≡ left_over ns ws (g + 1) i (n - 1)
     most-child e f =
         rw (is-most k l) (most_yes (kinds_of (get_or ns g 0 - 128)) (groups_in (drop (g + 1) ns)) (kinds_back ws j n) e
         ∙ ap (matches (groups_in (drop (g + 1) ns))) (rest ws i j n (begun (kinds_of (get_or ns g 0 - 128)) ws j n e) f))

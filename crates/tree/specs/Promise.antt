@@ -112,9 +112,9 @@ All ws ts lo (x ∷ xs) = At ws ts lo x × All ws ts (suc lo) xs
 
 -- where the last n branches begin that end before a record, counting back: each record takes its children with it. 0 where there are
 -- not so many
-unfoldable pub first_element : List ℕ → (end n : ℕ) → ℕ
-first_element ws zero n = 0
-first_element ws (suc end) n = elim n [ zero ↦ suc end | suc m ↦ first_element ws end (m + word_at ws end 6) ]
+unfoldable pub first_place : List ℕ → (end n : ℕ) → ℕ
+first_place ws zero n = 0
+first_place ws (suc end) n = elim n [ zero ↦ suc end | suc m ↦ first_place ws end (m + word_at ws end 6) ]
 
 -- the kind of the record before, or 0, which is no kind
 unfoldable pub kind_before : List ℕ → (end : ℕ) → ℕ
@@ -124,7 +124,7 @@ kind_before ws (suc i) = word_at ws i 0
 -- the kinds of the last n branches that end before a record, last first
 unfoldable pub kinds_back : List ℕ → (end n : ℕ) → List ℕ
 kinds_back ws end zero = []
-kinds_back ws end (suc n) = kind_before ws end ∷ kinds_back ws (first_element ws end 1) n
+kinds_back ws end (suc n) = kind_before ws end ∷ kinds_back ws (first_place ws end 1) n
 
 -- ------------------------------------------------------------------ groups of children
 

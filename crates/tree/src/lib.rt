@@ -10,7 +10,7 @@ ghost use Rattle.tree.specs.Records.{width, words_of};
 ghost use Rattle.tree.specs.CharClasses.{ranges, class_value};
 ghost use Rattle.tree.specs.Stored.{repeat_value, specialize_value, marker_number, prec_value};
 ghost use Rattle.tree.specs.OneTree.{is_kind, is_expression, has_text, values_fit, groups_of, text_fits, begins as begins_with, children_fit, record_fits, build};
-ghost use Rattle.tree.specs.Promise.{class_of, repeat_of, specialize_of, marker_of, prec_of, record_of, count_of, word_at, record_at, node_at, Inside, first_element, kind_before, kinds_back, kinds_of, groups_in, root_of, is_some, same_node, comparison};
+ghost use Rattle.tree.specs.Promise.{class_of, repeat_of, specialize_of, marker_of, prec_of, record_of, count_of, word_at, record_at, node_at, Inside, first_place, kind_before, kinds_back, kinds_of, groups_in, root_of, is_some, same_node, comparison};
 
 // How many words a record has, and which is which.
 const WIDTH: usize = 7;
@@ -252,7 +252,7 @@ pub fn word(records: &[u32], i: usize, k: usize) -> u32
 // children with it.
 pub fn first(records: &[u32], end: usize, n: usize) -> usize
     requires { end ≤ count_of records.now }
-    ensures { result ≡ first_element records.now end n }
+    ensures { result ≡ first_place records.now end n }
 {
     let mut i = end;
     let mut need = n;
@@ -269,7 +269,7 @@ pub fn first(records: &[u32], end: usize, n: usize) -> usize
 // Where the child k of the record i ends, its own record the last before that; children count from 0.
 pub fn child(records: &[u32], i: usize, k: usize) -> usize
     requires { (i < count_of records.now) × (k < word_at records.now i 6) }
-    ensures { result ≡ first_element records.now i (word_at records.now i 6 - (k + 1)) }
+    ensures { result ≡ first_place records.now i (word_at records.now i 6 - (k + 1)) }
 {
     first(records, i, wide(word(records, i, CHILDREN)) - (k + 1))
 }
@@ -500,7 +500,7 @@ fn is_part(k: u32) -> bool
 // Where the last branch begins and the one before it ends, where some are `left`. Otherwise nobody asks, and the count back is spared.
 fn sibling(records: &[u32], end: usize, left: usize) -> usize
     requires { end ≤ count_of records.now }
-    ensures { (result ≤ count_of records.now) × (0 < left → result ≡ first_element records.now end 1) }
+    ensures { (result ≤ count_of records.now) × (0 < left → result ≡ first_place records.now end 1) }
 {
     if left == 0 {
         return end;

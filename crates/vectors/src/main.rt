@@ -11,7 +11,7 @@ use anyhow::{Context, Result};
 use calls::{NormalAnswer, ReadAnswer};
 use error::Refusal;
 use std::io;
-use std::io::{BufWriter, Read, Write};
+use std::io::{Read, Write};
 
 const END: u8 = 0x1E;
 
@@ -121,7 +121,5 @@ fn run<R: Read, W: Write>(from: &mut R, input: &mut [u8], to: &mut W) -> Result<
 
 fn main(rt: HostRuntime) -> Result<()> {
     let mut input = [0u8; 262144];
-    let mut to = BufWriter::new(rt.alloc(), rt.stdout())?;
-    run(&mut rt.stdin(), &mut input, &mut to)?;
-    to.flush().context("vectors: cannot write standard output")
+    run(&mut rt.stdin(), &mut input, &mut rt.stdout())
 }

@@ -8,7 +8,7 @@ use lib.ListN.{length, length-append}
 use borrow.Author.Tests.{ne_eqb, eq-eqb}
 use Rattle.tree.specs.Records.{Row, Branch, branch, Branches, []ᴮ, ◌∷ᴮ◌, count, Node, nodes, nodes_all}
 use Rattle.tree.specs.OneTree.{kind_of}
-use Rattle.tree.specs.Promise.{word_at, first_element, kind_before, All}
+use Rattle.tree.specs.Promise.{word_at, first_place, kind_before, All}
 use Rattle.tree.proofs.Back.{all_left, all_right, root_at, past_root, kind-last, before, nodes-before, nodes-some, first-last}
 use Rattle.writer.specs.Promise.{Lent, row_at, Run}
 use Rattle.output.specs.Promise.{Wrote}
@@ -167,12 +167,12 @@ module _ {ws ts : List ℕ} {n end : ℕ} (s : Run ws ts n end) (b : ℕ) (h : b
   right = record { lo = mid; branches = rights; all = all_right ws ts s.lo (nodes_all lefts) (nodes_all rights) all_both; counted = count-right; ends = ends_at }
 
   -- counting back over the second half
-  pub mid-first : first_element ws end b ≡ mid
+  pub mid-first : first_place ws end b ≡ mid
   unfolding mid
   mid-first =
       let a : All ws ts s.lo (nodes_all (before lefts rights)) = rw whole s.all in
       let e : s.lo + length (nodes_all (before lefts rights)) ≡ end = rw whole s.ends in
-      ap (λ (x : ℕ). first_element ws x b) (sym e) ∙ ap (first_element ws (s.lo + length (nodes_all (before lefts rights)))) (sym count-right) ∙ first-last ws ts lefts rights s.lo a
+      ap (λ (x : ℕ). first_place ws x b) (sym e) ∙ ap (first_place ws (s.lo + length (nodes_all (before lefts rights)))) (sym count-right) ∙ first-last ws ts lefts rights s.lo a
 
   pub left : {m : ℕ} → m ≡ mid → Run ws ts (n - b) m
   unfolding mid
