@@ -15,19 +15,19 @@ use Rattle.printing.specs.Promise.{Within, Fills}
 -- ------------------------------------------------------------------ a text that is too long
 
 -- its refusal, which says nothing of the text
-abbrev over : Refusal
-over = record { cause = too_long; place = 0; line = 1; column = 0 }
+abbrev too_long_refusal : Refusal
+too_long_refusal = record { cause = too_long; place = 0; line = 1; column = 0 }
 
-at_start : (s : List ℕ) → refusal_at s too_long 0 ≡ over
+at_start : (s : List ℕ) → refusal_at s too_long 0 ≡ too_long_refusal
 unfolding line_feeds line_start line_at column_at refusal_at
 at_start s = refl
 
 normal-long : (s records texts output : List ℕ) → longest < length s
-    → normal s records texts output ≡ record { answer = NormalAnswer.refused over; records = records; texts = texts; output = output }
+    → normal s records texts output ≡ record { answer = NormalAnswer.refused too_long_refusal; records = records; texts = texts; output = output }
 unfolding room_for normal_by normal
 normal-long s records texts output h = rw (reading_long s h, at_start s)
 
-prints-long : (s : List ℕ) → longest < length s → printed s ≡ refusal_line over
+prints-long : (s : List ℕ) → longest < length s → printed s ≡ refusal_line too_long_refusal
 unfolding printed
 prints-long s h = ap (λ (o : NormalOutcome). printed_by o.answer o.output) (normal-long s (replicate 14000 0) (replicate 32768 0) (replicate 65535 0) h)
 
