@@ -25,9 +25,9 @@ use Rattle.laws.proofs.Demand3.{normal-texts-are-accepted, equal_when_trees_agre
 use Rattle.laws.proofs.Calls.{Room, wrote, wrote-only}
 use Rattle.calls.specs.Promise.{read_outcome, ReadTo, normal_answer, normal_outcome, NormalTo}
 use Rattle.calls.specs.Demands.{ReadIsSettled, NormalTextIsSettled, StructurallyEqIsSettled, RefusedAs, StoredAs, Answers, ReadAnswersAsDefined, EqualExactlyWhenTreesAgree, Agreeing, NormalTextsAreTheirOwn, NormalTextIsWritten, NormalTextIsTooLong}
-use Rattle.calls.specs.declared.ReadAnswer.{ReadAnswer}
-use Rattle.calls.specs.declared.NormalAnswer.{NormalAnswer}
-use Rattle.calls.specs.declared.NormalAnswer.TheVariants.{Written, Refused}
+use Rattle.std.specs.Prelude.{Result, Ok, Err}
+use Rattle.error.specs.declared.Refusal.{Refusal}
+use Rattle.reader.specs.declared.whole.Stored.{Stored}
 use Rattle.calls.proofs.NormalLaws.{roomed}
 
 -- ------------------------------------------------------------------ 1
@@ -86,7 +86,7 @@ structurally_eq_is-settled ls lts rs rts r q a b = a ∙ sym b
 
 -- ------------------------------------------------------------------ 2
 
-module _ (s ws ts : List ℕ) (r : ReadAnswer) (vs us : List ℕ) (a : ReadTo s ws ts r vs us) where
+module _ (s ws ts : List ℕ) (r : Result Stored Refusal) (vs us : List ℕ) (a : ReadTo s ws ts r vs us) where
   -- the parts of what the call comes to
   as_refused : {n p : ℕ} → room_for (length ws) (length ts) (reading s) ≡ stopped n p → RefusedAs n p s ws ts r vs us
   unfolding read
@@ -127,7 +127,7 @@ record Made (s ws ts out : List ℕ) (n : ℕ) (new : List ℕ) : Type 0 where
 front_of : (t out : List ℕ) → take (length t) (over t out) ≡ t
 front_of t out = take-append_seam t (drop (length t) out)
 
-module _ (s ws ts out : List ℕ) (n : ℕ) (vs us new : List ℕ) (a : NormalTo s ws ts out (Written n) vs us new) where
+module _ (s ws ts out : List ℕ) (n : ℕ) (vs us new : List ℕ) (a : NormalTo s ws ts out (Ok n) vs us new) where
   made : Made s ws ts out n new
   made =
       let w = wrote-only ws ts out s n (sym (ap (λ (o : NormalOutcome). o.answer) a)) in
@@ -150,13 +150,13 @@ equal_exactly_when_trees_agree s ws ts out n vs us new a t xs ys put m zs qs oth
     }
 
 -- an answer of the code that counts as the definition's
-written_is : (r : NormalAnswer) {n : ℕ} → normal_answer r ≡ Calls.NormalAnswer.written n → r ≡ Written n
-written_is (Written m) {n} e = let q : m ≡ n = cc in ap Written q
-written_is (Refused f) e = impossible (cc)
+written_is : (r : Result ℕ Refusal) {n : ℕ} → normal_answer r ≡ Calls.NormalAnswer.written n → r ≡ Ok n
+written_is (Ok m) {n} e = let q : m ≡ n = cc in ap (λ x. Ok x) q
+written_is (Err f) e = impossible (cc)
 
 -- all is written
-module _ (s ws ts out : List ℕ) (g : GrammarDeclaration ℕ) (e : reading s ≡ tree g) (h : Room ws ts out g) (r : NormalAnswer) (vs us new : List ℕ) (a : NormalTo s ws ts out r vs us new) where
-  written_all_lem : (r ≡ Written (length (normal_text g))) × (vs ≡ over (grammar_words g) ws) × (us ≡ over (grammar_texts g) ts) × (new ≡ over (normal_text g) out)
+module _ (s ws ts out : List ℕ) (g : GrammarDeclaration ℕ) (e : reading s ≡ tree g) (h : Room ws ts out g) (r : Result ℕ Refusal) (vs us new : List ℕ) (a : NormalTo s ws ts out r vs us new) where
+  written_all_lem : (r ≡ Ok (length (normal_text g))) × (vs ≡ over (grammar_words g) ws) × (us ≡ over (grammar_texts g) ts) × (new ≡ over (normal_text g) out)
   written_all_lem =
       let o = a ∙ wrote ws ts out s g e h in
       (written_is r (ap (λ (o : NormalOutcome). o.answer) o), ap (λ (o : NormalOutcome). o.records) o, ap (λ (o : NormalOutcome). o.texts) o, ap (λ (o : NormalOutcome). o.output) o)
@@ -187,7 +187,7 @@ normal-texts-are_their_own s ws ts out n vs us new a xs ys put e f i r zs qs oth
     let c = normal-texts-are-accepted s k.grammar k.reads (ltb-false longest (length (normal_text k.grammar)) l) in
     again k c
   where
-    again : (k : Made s ws ts out n new) → Accepted k.grammar → (r ≡ Written n) × (take n other ≡ take n new) × Agreeing s (take n new)
+    again : (k : Made s ws ts out n new) → Accepted k.grammar → (r ≡ Ok n) × (take n other ≡ take n new) × Agreeing s (take n new)
     again k c =
         let g = k.grammar in
         let h = c.again in
@@ -201,6 +201,6 @@ normal-texts-are_their_own s ws ts out n vs us new a xs ys put e f i r zs qs oth
         let reads : reading (take n new) ≡ tree h = rw k.front c.accepted in
         let o = written_all_lem (take n new) xs ys put h reads room r zs qs other b in
         let size : length (normal_text h) ≡ n = rw c.itself k.size in
-        let count : r ≡ Written n = rw (← size) o.0 in
+        let count : r ≡ Ok n = rw (← size) o.0 in
         let bytes : take n other ≡ take n new = rw (k.front, o.3, ← size) (front_of (normal_text h) put ∙ c.itself) in
         (count, bytes, record { first = g; again = h; reads_first = k.reads; reads-again = reads; agrees = c.agrees })

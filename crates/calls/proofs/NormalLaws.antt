@@ -4,7 +4,7 @@ use Prim.Native.Nat.{ℕ, ◌+◌, ◌*◌, ◌≤◌}
 use native.Mathlib.Omega.{arith}
 use mathlib.Core.Path.{◌≡◌, refl, ap, sym, ◌∙◌}
 use mathlib.Core.Bool.{Bool, true, false}
-use mathlib.Core.List.{List, ◌++◌}
+use mathlib.Core.List.{List}
 use lib.Dec.{ltb}
 use lib.ListN.{length, take, drop, length-append, length-take}
 use lib.Seq.{take-append_seam}
@@ -18,18 +18,15 @@ use Rattle.error.specs.declared.Refusal as declared
 use Rattle.tree.specs.Syntax.{GrammarDeclaration}
 use Rattle.tree.specs.Stored.{grammar_words, grammar_texts}
 use Rattle.spelling.specs.NormalText.{normal_text}
-use Rattle.writer.specs.Promise.{Stored, too_long, WroteNormalWithin}
-use Rattle.writer.specs.declared.Written.{Written}
-use Rattle.writer.specs.declared.Written.TheVariants.{Bytes, TooLong}
+use Rattle.writer.specs.Promise.{Stored, too_long, WroteWithin, WroteNormalWithin}
+use Rattle.writer.specs.declared.TooLong.{TooLong}
 use Rattle.grammar.specs.Reading.{Reading, tree, stopped, reading, longest}
 use Rattle.grammar.specs.Calls as Calls
 use Rattle.grammar.specs.Calls.{room_for, read_by, read, ReadOutcome, write_by, normal_by, normal}
 use Rattle.laws.proofs.Accepted.{not_tree}
-use Rattle.calls.specs.Promise.{read_outcome, ReadTo, Few, normal_outcome, WriteTo, NormalTo}
-use Rattle.calls.specs.declared.ReadAnswer.{ReadAnswer}
-use Rattle.calls.specs.declared.ReadAnswer.TheVariants as Read
-use Rattle.calls.specs.declared.NormalAnswer.{NormalAnswer}
-use Rattle.calls.specs.declared.NormalAnswer.TheVariants as Normal
+use Rattle.calls.specs.Promise.{Kept, read_outcome, ReadTo, Few, normal_outcome, WriteTo, NormalTo}
+use Rattle.reader.specs.declared.whole.Stored.{Stored as StoredTree}
+use Rattle.std.specs.Prelude.{Result, Ok, Err}
 use Rattle.calls.proofs.ReadLaws.{reading_long}
 
 -- ------------------------------------------------------------------ a tree that there is room for is the text's
@@ -63,55 +60,47 @@ short s {g} e = by_length (ltb longest (length s)) refl
 
 -- ------------------------------------------------------------------ the tree that `read` has stored
 
--- it stands in what was lent
-pub record Kept (s ws ts vs us : List ℕ) (n : ℕ) : Type 0 where
-  pub grammar : GrammarDeclaration ℕ
-  pub is : room_for (length ws) (length ts) (reading s) ≡ tree grammar
-  pub size : n ≡ length (grammar_words grammar)
-  pub records : vs ≡ over (grammar_words grammar) ws
-  pub texts : us ≡ over (grammar_texts grammar) ts
-
 apart : {A : Type 0} {n x : ℕ} {r : Refusal} → Calls.ReadAnswer.stored n x ≡ Calls.ReadAnswer.refused r → A
 apart e = impossible (cc)
 
-same-words : {n x m y : ℕ} → Calls.ReadAnswer.stored n x ≡ Calls.ReadAnswer.stored m y → n ≡ m
-same-words e = cc
+same-sizes : {n x m y : ℕ} → Calls.ReadAnswer.stored n x ≡ Calls.ReadAnswer.stored m y → (n ≡ m) × (x ≡ y)
+same-sizes e = (cc, cc)
 
-module _ (s ws ts vs us : List ℕ) where
-  by-reading : {n x : ℕ} (r : Reading) → room_for (length ws) (length ts) (reading s) ≡ r → read_outcome (Read.Stored n x) vs us ≡ read_by s ws ts r → Kept s ws ts vs us n
-  by-reading (stopped m p) q e = apart (ap (λ (o : ReadOutcome). o.answer) e)
-  by-reading (tree g) q e =
+module _ (s ws ts vs us : List ℕ) (r : StoredTree) where
+  by-reading : (a : Reading) → room_for (length ws) (length ts) (reading s) ≡ a → read_outcome (Ok r) vs us ≡ read_by s ws ts a → r.words ≤ 28 * length s + 7 → Kept s ws ts vs us r
+  by-reading (stopped m p) q e few = apart (ap (λ (o : ReadOutcome). o.answer) e)
+  by-reading (tree g) q e few =
+      let sizes = same-sizes (ap (λ (o : ReadOutcome). o.answer) e) in
       record {
         grammar = g;
         is = q;
-        size = same-words (ap (λ (o : ReadOutcome). o.answer) e);
+        words = sizes.0;
+        bytes = sizes.1;
+        few = few;
         records = ap (λ (o : ReadOutcome). o.records) e;
         texts = ap (λ (o : ReadOutcome). o.texts) e;
       }
 
-  module _ (r : ReadAnswer) (e : ReadTo s ws ts r vs us) {n x : ℕ} (q : r ≡ Read.Stored n x) where
-    pub kept : Kept s ws ts vs us n
-    unfolding read
-    kept = by-reading (room_for (length ws) (length ts) (reading s)) refl (rw q at e)
-
-    pub kept-few : Few s r → n ≤ 28 * length s + 7
-    kept-few h = rw q at h
+  pub kept : ReadTo s ws ts (Ok r) vs us → Few s (Ok r) → Kept s ws ts vs us r
+  unfolding read
+  kept e few = by-reading (room_for (length ws) (length ts) (reading s)) refl e few
 
 -- the words and texts are those that the writer asks for
-module _ {s ws ts vs us : List ℕ} {n : ℕ} (k : Kept s ws ts vs us n) where
-  pub kept-inside : n ≤ length vs
-  kept-inside = let e = k.size in let l = ap length k.records ∙ length-append (grammar_words k.grammar) (drop (length (grammar_words k.grammar)) ws) in omega arith
+module _ {s ws ts vs us : List ℕ} {r : StoredTree} (k : Kept s ws ts vs us r) where
+  pub kept-inside : r.words ≤ length vs
+  kept-inside = let e = k.words in let l = ap length k.records ∙ length-append (grammar_words k.grammar) (drop (length (grammar_words k.grammar)) ws) in omega arith
 
-  pub kept-part : n ≡ length (take n vs)
+  pub kept-part : r.words ≡ length (take r.words vs)
   kept-part = let h = kept-inside in simp length-take (omega arith)
 
-  pub kept-stored : n ≤ 28 * length s + 7 → Stored (take n vs) us
+  pub kept-stored : Stored (take r.words vs) us
   unfolding longest
-  kept-stored few =
+  kept-stored =
       let g = k.grammar in
-      let front : take n vs ≡ grammar_words g = rw (k.size, k.records) (take-append_seam (grammar_words g) (drop (length (grammar_words g)) ws)) in
+      let front : take r.words vs ≡ grammar_words g = rw (k.words, k.records) (take-append_seam (grammar_words g) (drop (length (grammar_words g)) ws)) in
       let l : length s ≤ 65535 = short s (roomed (length ws) (length ts) (reading s) k.is).is in
-      let e = k.size in
+      let e = k.words in
+      let few = k.few in
       let f = ap length front in
       record { grammar = g; words = front; few = omega arith; more = drop (length (grammar_texts g)) ts; texts = k.texts }
 
@@ -122,46 +111,50 @@ same_refusal e = cc
 
 -- a refusal of the reading is the call's
 module _ (s ws ts vs us out : List ℕ) where
-  by_refusal : (f : declared.Refusal) (r : Reading) → read_outcome (Read.Refused f) vs us ≡ read_by s ws ts r → normal_outcome (Normal.Refused f) vs us out ≡ normal_by s ws ts out r
+  by_refusal : (f : declared.Refusal) (r : Reading) → read_outcome (Err f) vs us ≡ read_by s ws ts r → normal_outcome (Err f) vs us out ≡ normal_by s ws ts out r
   unfolding normal_by
   by_refusal f (stopped m p) e =
       rw (same_refusal (ap (λ (o : ReadOutcome). o.answer) e), ap (λ (o : ReadOutcome). o.records) e, ap (λ (o : ReadOutcome). o.texts) e)
   by_refusal f (tree g) e = apart (sym (ap (λ (o : ReadOutcome). o.answer) e))
 
-  pub normal-refused : (r : ReadAnswer) → ReadTo s ws ts r vs us → {f : declared.Refusal} → r ≡ Read.Refused f → NormalTo s ws ts out (Normal.Refused f) vs us out
+  pub normal-refused : (f : declared.Refusal) → ReadTo s ws ts (Err f) vs us → NormalTo s ws ts out (Err f) vs us out
   unfolding read normal
-  normal-refused r e {f} q = by_refusal f (room_for (length ws) (length ts) (reading s)) (rw q at e)
+  normal-refused f e = by_refusal f (room_for (length ws) (length ts) (reading s)) e
 
--- what is written of a tree that is stored, or that it is too long
-module _ (s : List ℕ) {ws ts out new : List ℕ} (r : Written) (does : WroteNormalWithin ws ts longest out new r) (a : NormalAnswer) where
-  -- by whether the normal text is too long
-  module _ (k : Stored ws ts) (vs us : List ℕ) where
-    abbrev t : List ℕ
-    t = normal_text k.grammar
+-- what is written of a grammar within the limit and the output, or that it is too long
+module _ (s out new vs us : List ℕ) (g : GrammarDeclaration ℕ) where
+  abbrev t : List ℕ
+  t = normal_text g
 
-    abbrev Is : Type 0
-    Is = normal_outcome a (over (grammar_words k.grammar) vs) (over (grammar_texts k.grammar) us) new ≡ write_by s vs us out k.grammar
+  abbrev Is : Result ℕ declared.Refusal → Type 0
+  Is a = normal_outcome a (over (grammar_words g) vs) (over (grammar_texts g) us) new ≡ write_by s vs us out g
 
-    done-by : {m : ℕ} (b : Bool) → a ≡ Normal.Written m → r ≡ Bytes m → too_long longest t out ≡ b → r ≡ (if b then TooLong otherwise Bytes (length t))
-        → new ≡ (if b then out otherwise t ++ drop (length t) out) → Is
-    unfolding write_by
-    done-by true c q h e o = impossible (cc)
-    done-by {m} false c q h e o = let l : m ≡ length t = cc in rw (c, h, l, o)
+  full-ok : {A : Type 0} {e : TooLong} {n : ℕ} → ◌≡◌ {A = Result ℕ TooLong} (Err e) (Ok n) → A
+  full-ok q = impossible (cc)
 
-    full_by : {f : declared.Refusal} (b : Bool) → a ≡ Normal.Refused f → refusal_of f ≡ refusal_at s output_full 0 → r ≡ TooLong → too_long longest t out ≡ b
-        → r ≡ (if b then TooLong otherwise Bytes (length t)) → new ≡ (if b then out otherwise t ++ drop (length t) out) → Is
-    unfolding write_by
-    full_by true c i q h e o = rw (c, h, i, o)
-    full_by false c i q h e o = impossible (cc)
+  same-count : {m n : ℕ} → ◌≡◌ {A = Result ℕ TooLong} (Ok m) (Ok n) → m ≡ n
+  same-count q = cc
 
-  pub write_done : {m : ℕ} → a ≡ Normal.Written m → r ≡ Bytes m → WriteTo s ws ts out a new
-  write_done c q k vs us = done-by k vs us (too_long longest (t k vs us) out) c q refl (does k).answer (does k).output
+  done-by : {m : ℕ} → WroteWithin longest t out new (Ok m) → (b : Bool) → too_long longest t out ≡ b → Is (Ok m)
+  unfolding write_by
+  done-by w true q = full-ok (sym (rw q at w.answer))
+  done-by w false q = let l = same-count (rw q at w.answer) in rw (q, l, rw q at w.output)
 
-  pub write_full : (f : declared.Refusal) → a ≡ Normal.Refused f → refusal_of f ≡ refusal_at s output_full 0 → r ≡ TooLong → WriteTo s ws ts out a new
-  write_full f c i q k vs us = full_by k vs us (too_long longest (t k vs us) out) c i q refl (does k).answer (does k).output
+  full_by : {e : TooLong} → WroteWithin longest t out new (Err e) → (f : declared.Refusal) → refusal_of f ≡ refusal_at s output_full 0 → (b : Bool) → too_long longest t out ≡ b → Is (Err f)
+  unfolding write_by
+  full_by w f i true q = rw (q, i, rw q at w.output)
+  full_by w f i false q = full-ok (rw q at w.answer)
+
+-- of a tree that is stored
+module _ (s : List ℕ) {ws ts out new : List ℕ} where
+  pub write_done : {m : ℕ} → WroteNormalWithin ws ts longest out new (Ok m) → WriteTo s ws ts out (Ok m) new
+  write_done does k vs us = done-by s out new vs us k.grammar (does k) (too_long longest (normal_text k.grammar) out) refl
+
+  pub write_full : {e : TooLong} → WroteNormalWithin ws ts longest out new (Err e) → (f : declared.Refusal) → refusal_of f ≡ refusal_at s output_full 0 → WriteTo s ws ts out (Err f) new
+  write_full does f i k vs us = full_by s out new vs us k.grammar (does k) f i (too_long longest (normal_text k.grammar) out) refl
 
 -- of the tree that was kept it is the call's
-pub normal-kept : {s ws ts vs us : List ℕ} {n : ℕ} (k : Kept s ws ts vs us n) → n ≤ 28 * length s + 7 → (out new : List ℕ) (r : NormalAnswer)
-    → WriteTo s (take n vs) us out r new → NormalTo s ws ts out r vs us new
+pub normal-kept : {s ws ts vs us : List ℕ} {r : StoredTree} (k : Kept s ws ts vs us r) → (out new : List ℕ) (a : Result ℕ declared.Refusal)
+    → WriteTo s (take r.words vs) us out a new → NormalTo s ws ts out a vs us new
 unfolding normal normal_by kept-stored
-normal-kept {s} {ws} {ts} k few out new r w = rw (k.is, k.records, k.texts) (w (kept-stored k few) ws ts)
+normal-kept {s} {ws} {ts} k out new a w = rw (k.is, k.records, k.texts) (w (kept-stored k) ws ts)

@@ -1,7 +1,7 @@
 -- The three demands, said of the calls: of every answer, and every content of what is lent, that keeps a call's promise. Statements
 -- only; their proofs are in `proofs/Demands.antt`.
 -- Assumes nothing.
-use Rattle.std.specs.Prelude.{ℕ, ◌≤◌, ◌<◌, ◌≡◌, true, List, length, take}
+use Rattle.std.specs.Prelude.{ℕ, ◌≤◌, ◌<◌, ◌≡◌, Bool, true, List, Result, Ok, length, take}
 use Rattle.error.specs.Causes.{records_full, texts_full, output_full}
 use Rattle.error.specs.Lines.{refusal_at}
 use Rattle.tree.specs.Syntax.{GrammarDeclaration}
@@ -13,10 +13,8 @@ use Rattle.grammar.specs.Reading.{tree, stopped, reading, longest}
 use Rattle.grammar.specs.Calls as Calls
 use Rattle.basics.specs.Basics.{over}
 use Rattle.calls.specs.Promise.{read_answer, read_outcome, ReadTo, normal_answer, normal_outcome, NormalTo, compare_answer, CompareTo}
-use Rattle.calls.specs.declared.ReadAnswer.{ReadAnswer}
-use Rattle.calls.specs.declared.NormalAnswer.{NormalAnswer}
-use Rattle.calls.specs.declared.NormalAnswer.TheVariants.{Written}
-use Rattle.calls.specs.declared.CompareAnswer.{CompareAnswer}
+use Rattle.error.specs.declared.Refusal.{Refusal}
+use Rattle.reader.specs.declared.whole.Stored.{Stored}
 
 -- what a text is read as
 abbrev Tree : Type 0
@@ -27,33 +25,33 @@ Tree = GrammarDeclaration ℕ
 -- Two runs of `read` on the same arguments come to the same, and what is lent keeps its length.
 abbrev pub ReadIsSettled : Type 0
 ReadIsSettled =
-    (s ws ts : List ℕ) (r q : ReadAnswer) (vs us xs ys : List ℕ) → ReadTo s ws ts r vs us → ReadTo s ws ts q xs ys
+    (s ws ts : List ℕ) (r q : Result Stored Refusal) (vs us xs ys : List ℕ) → ReadTo s ws ts r vs us → ReadTo s ws ts q xs ys
     → (read_outcome r vs us ≡ read_outcome q xs ys) × (length vs ≡ length ws) × (length us ≡ length ts)
 
 -- So do two of `normal_text`.
 abbrev pub NormalTextIsSettled : Type 0
 NormalTextIsSettled =
-    (s ws ts out : List ℕ) (r q : NormalAnswer) (vs us new xs ys other : List ℕ) → NormalTo s ws ts out r vs us new → NormalTo s ws ts out q xs ys other
+    (s ws ts out : List ℕ) (r q : Result ℕ Refusal) (vs us new xs ys other : List ℕ) → NormalTo s ws ts out r vs us new → NormalTo s ws ts out q xs ys other
     → (normal_outcome r vs us new ≡ normal_outcome q xs ys other) × (length vs ≡ length ws) × (length us ≡ length ts) × (length new ≡ length out)
 
 -- Two runs of `structurally_eq` on the same arguments answer the same.
 abbrev pub StructurallyEqIsSettled : Type 0
 StructurallyEqIsSettled =
-    (ls lts rs rts : List ℕ) (r q : CompareAnswer) → CompareTo ls lts rs rts r → CompareTo ls lts rs rts q → compare_answer r ≡ compare_answer q
+    (ls lts rs rts : List ℕ) (r q : Result Bool Refusal) → CompareTo ls lts rs rts r → CompareTo ls lts rs rts q → compare_answer r ≡ compare_answer q
 
 -- ------------------------------------------------------------------ 2. `read` answers with the definition's tree, or with its refusal
 
 -- a refusal by a cause at a place, which leaves all as it was
-abbrev pub RefusedAs : (cause place : ℕ) → (text records texts : List ℕ) → ReadAnswer → (records_after texts_after : List ℕ) → Type 0
+abbrev pub RefusedAs : (cause place : ℕ) → (text records texts : List ℕ) → Result Stored Refusal → (records_after texts_after : List ℕ) → Type 0
 RefusedAs n p s ws ts r vs us = (read_answer r ≡ Calls.ReadAnswer.refused (refusal_at s n p)) × (vs ≡ ws) × (us ≡ ts)
 
 -- the tree is stored, and its sizes are answered
-abbrev pub StoredAs : Tree → (records texts : List ℕ) → ReadAnswer → (records_after texts_after : List ℕ) → Type 0
+abbrev pub StoredAs : Tree → (records texts : List ℕ) → Result Stored Refusal → (records_after texts_after : List ℕ) → Type 0
 StoredAs g ws ts r vs us =
     (read_answer r ≡ Calls.ReadAnswer.stored (length (grammar_words g)) (length (grammar_texts g))) × (vs ≡ over (grammar_words g) ws) × (us ≡ over (grammar_texts g) ts)
 
 -- A text that the definition refuses is refused so. Of one that it accepts the tree is stored where there is room; else there is 22 or 23.
-pub record Answers (s ws ts : List ℕ) (r : ReadAnswer) (vs us : List ℕ) : Type 0 where
+pub record Answers (s ws ts : List ℕ) (r : Result Stored Refusal) (vs us : List ℕ) : Type 0 where
   pub refuses : (n p : ℕ) → reading s ≡ stopped n p → RefusedAs n p s ws ts r vs us
   pub stores : (g : Tree) → reading s ≡ tree g → length (grammar_words g) ≤ length ws → length (grammar_texts g) ≤ length ts → StoredAs g ws ts r vs us
   pub no_words : (g : Tree) → reading s ≡ tree g → length ws < length (grammar_words g) → RefusedAs records_full 0 s ws ts r vs us
@@ -61,7 +59,7 @@ pub record Answers (s ws ts : List ℕ) (r : ReadAnswer) (vs us : List ℕ) : Ty
 
 -- Every answer of `read` is so.
 abbrev pub ReadAnswersAsDefined : Type 0
-ReadAnswersAsDefined = (s ws ts : List ℕ) (r : ReadAnswer) (vs us : List ℕ) → ReadTo s ws ts r vs us → Answers s ws ts r vs us
+ReadAnswersAsDefined = (s ws ts : List ℕ) (r : Result Stored Refusal) (vs us : List ℕ) → ReadTo s ws ts r vs us → Answers s ws ts r vs us
 
 -- ------------------------------------------------------------------ 3. normal texts
 
@@ -77,8 +75,8 @@ pub record EqualWhenAgreeing (s t p q : List ℕ) : Type 0 where
 -- Two calls of `normal_text` that both write, whatever was lent to each, write the same bytes exactly when the trees of their texts agree.
 abbrev pub EqualExactlyWhenTreesAgree : Type 0
 EqualExactlyWhenTreesAgree =
-    (s ws ts out : List ℕ) (n : ℕ) (vs us new : List ℕ) → NormalTo s ws ts out (Written n) vs us new
-    → (t xs ys put : List ℕ) (m : ℕ) (zs qs other : List ℕ) → NormalTo t xs ys put (Written m) zs qs other
+    (s ws ts out : List ℕ) (n : ℕ) (vs us new : List ℕ) → NormalTo s ws ts out (Ok n) vs us new
+    → (t xs ys put : List ℕ) (m : ℕ) (zs qs other : List ℕ) → NormalTo t xs ys put (Ok m) zs qs other
     → EqualWhenAgreeing s t (take n new) (take m other)
 
 -- a text and another, both accepted, with trees that agree
@@ -93,23 +91,23 @@ pub record Agreeing (s t : List ℕ) : Type 0 where
 -- bytes, and its tree agrees with the first.
 abbrev pub NormalTextsAreTheirOwn : Type 0
 NormalTextsAreTheirOwn =
-    (s ws ts out : List ℕ) (n : ℕ) (vs us new : List ℕ) → NormalTo s ws ts out (Written n) vs us new
+    (s ws ts out : List ℕ) (n : ℕ) (vs us new : List ℕ) → NormalTo s ws ts out (Ok n) vs us new
     → (xs ys put : List ℕ) → length xs ≡ length ws → length ys ≡ length ts → length put ≡ length out
-    → (r : NormalAnswer) (zs qs other : List ℕ) → NormalTo (take n new) xs ys put r zs qs other
-    → (r ≡ Written n) × (take n other ≡ take n new) × Agreeing s (take n new)
+    → (r : Result ℕ Refusal) (zs qs other : List ℕ) → NormalTo (take n new) xs ys put r zs qs other
+    → (r ≡ Ok n) × (take n other ≡ take n new) × Agreeing s (take n new)
 
 -- Where a text is accepted and enough is lent, its normal text is written, unless it has over 65,535 bytes.
 abbrev pub NormalTextIsWritten : Type 0
 NormalTextIsWritten =
     (s ws ts out : List ℕ) (g : Tree) → reading s ≡ tree g → length (grammar_words g) ≤ length ws → length (grammar_texts g) ≤ length ts
     → length (normal_text g) ≤ longest → length (normal_text g) ≤ length out
-    → (r : NormalAnswer) (vs us new : List ℕ) → NormalTo s ws ts out r vs us new
-    → (r ≡ Written (length (normal_text g))) × (vs ≡ over (grammar_words g) ws) × (us ≡ over (grammar_texts g) ts) × (new ≡ over (normal_text g) out)
+    → (r : Result ℕ Refusal) (vs us new : List ℕ) → NormalTo s ws ts out r vs us new
+    → (r ≡ Ok (length (normal_text g))) × (vs ≡ over (grammar_words g) ws) × (us ≡ over (grammar_texts g) ts) × (new ≡ over (normal_text g) out)
 
 -- Else, with the tree's room lent, it is refused with 24 at place 0: the output is as it was, records and texts hold the tree.
 abbrev pub NormalTextIsTooLong : Type 0
 NormalTextIsTooLong =
     (s ws ts out : List ℕ) (g : Tree) → reading s ≡ tree g → length (grammar_words g) ≤ length ws → length (grammar_texts g) ≤ length ts
     → too_long longest (normal_text g) out ≡ true
-    → (r : NormalAnswer) (vs us new : List ℕ) → NormalTo s ws ts out r vs us new
+    → (r : Result ℕ Refusal) (vs us new : List ℕ) → NormalTo s ws ts out r vs us new
     → (normal_answer r ≡ Calls.NormalAnswer.refused (refusal_at s output_full 0)) × (vs ≡ over (grammar_words g) ws) × (us ≡ over (grammar_texts g) ts) × (new ≡ out)

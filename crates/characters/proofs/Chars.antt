@@ -7,11 +7,11 @@ use native.Mathlib.Omega.{arith}
 use native.Mathlib.Nat.{not-suc-le-zero}
 use lib.ListN.{length, take, drop, length-drop, length-append}
 use lib.Seq.{drop-drop, drop-append_seam, take_at}
+use Rattle.std.specs.Option.{MatchOption}
+use Rattle.std.proofs.Common.{Option, Some, None}
 use Rattle.characters.specs.Utf8.{first_char, on_char, encode, codes_from, codes, encode_all, width}
 use Rattle.characters.specs.Places.{decode_at, peek_at, past, cut}
 use Rattle.characters.specs.Promise.{Next}
-use Rattle.characters.specs.declared.Char.{Char}
-use Rattle.characters.specs.declared.Char.TheVariants.{Scalar, Ill}
 use Rattle.characters.proofs.Encode.{IsScalar, read_back, ascii-wide}
 use Rattle.characters.proofs.Heads.{Stands, stands}
 use Rattle.characters.proofs.Laws.{first_fits, scalar_fits}
@@ -23,7 +23,7 @@ codes-skip zero l = refl
 codes-skip (suc j) [] = refl
 codes-skip (suc j) (x ∷ xs) = codes-skip j xs
 
-codes-cons : (l : List ℕ) {c n : ℕ} → first_char l ≡ Scalar c n → codes l ≡ c ∷ codes (drop n l)
+codes-cons : (l : List ℕ) {c n : ℕ} → first_char l ≡ Some (c, n) → codes l ≡ c ∷ codes (drop n l)
 unfolding codes_from on_char
 codes-cons [] e = let f = first_fits [] e in absurd (omega arith)
 codes-cons (x ∷ xs) {c} {n} e = let f = first_fits (x ∷ xs) e in simp e (ap (λ (r : List ℕ). c ∷ r) (tail n f))
@@ -32,21 +32,21 @@ codes-cons (x ∷ xs) {c} {n} e = let f = first_fits (x ∷ xs) e in simp e (ap 
     tail zero f = absurd (not-suc-le-zero f.0)
     tail (suc m) f = let q : suc m - 1 ≡ m = omega arith in rw q (codes-skip m xs)
 
-codes-nil : (l : List ℕ) → first_char l ≡ Ill → codes l ≡ []
+codes-nil : (l : List ℕ) → first_char l ≡ None → codes l ≡ []
 unfolding codes_from on_char
 codes-nil [] e = refl
 codes-nil (x ∷ xs) e = simp e
 
 module _ (s : List ℕ) (at : ℕ) where
-  pub codes-on : {c n : ℕ} → decode_at s at ≡ Scalar c n → codes (drop at s) ≡ c ∷ codes (drop (at + n) s)
+  pub codes-on : {c n : ℕ} → decode_at s at ≡ Some (c, n) → codes (drop at s) ≡ c ∷ codes (drop (at + n) s)
   unfolding decode_at
   codes-on {c} {n} e = codes-cons (drop at s) e ∙ ap (λ (l : List ℕ). c ∷ codes l) (drop-drop n at s)
 
-  pub codes_off : decode_at s at ≡ Ill → codes (drop at s) ≡ []
+  pub codes_off : decode_at s at ≡ None → codes (drop at s) ≡ []
   unfolding decode_at
   codes_off e = codes-nil (drop at s) e
 
-  pub stands_at : {c n : ℕ} → decode_at s at ≡ Scalar c n → Stands (drop at s) c n
+  pub stands_at : {c n : ℕ} → decode_at s at ≡ Some (c, n) → Stands (drop at s) c n
   unfolding decode_at
   stands_at e = stands (drop at s) e
 
@@ -107,10 +107,10 @@ prefix-one k p c n l h f e r =
       size = rw e (length-append (encode c) (encode_all (take k (codes (drop n l)))) ∙ (let x = r.size in let w = h.wide in omega arith));
     })
 
-prefix-by : (k p : ℕ) (l : List ℕ) → ((p : ℕ) (l : List ℕ) → Prefix l k p (past p k (codes l))) → (ch : Char) → first_char l ≡ ch
+prefix-by : (k p : ℕ) (l : List ℕ) → ((p : ℕ) (l : List ℕ) → Prefix l k p (past p k (codes l))) → (ch : Option (ℕ × ℕ)) → first_char l ≡ ch
     → Prefix l (suc k) p (past p (suc k) (codes l))
-prefix-by k p l r Ill e = prefix-none k p l (codes-nil l e)
-prefix-by k p l r (Scalar c n) e = prefix-one k p c n l (stands l e) (first_fits l e).1 (codes-cons l e) (r (p + width c) (drop n l))
+prefix-by k p l r None e = prefix-none k p l (codes-nil l e)
+prefix-by k p l r (Some (c, n)) e = prefix-one k p c n l (stands l e) (first_fits l e).1 (codes-cons l e) (r (p + width c) (drop n l))
 
 pub prefix : (k p : ℕ) (l : List ℕ) → Prefix l k p (past p k (codes l))
 unfolding encode_all past
@@ -150,20 +150,27 @@ module _ (s : List ℕ) (at k : ℕ) (h : at ≤ length s) where
       }
 
 -- the characters from a place on go on after one of them
-pub next_of : (s : List ℕ) (at : ℕ) {c n : ℕ} → decode_at s at ≡ Scalar c n → c < 0x80 → Next s at c
+pub next_of : (s : List ℕ) (at : ℕ) {c n : ℕ} → decode_at s at ≡ Some (c, n) → c < 0x80 → Next s at c
 next_of s at {c} {n} e h =
     let f = scalar_fits s at e in
     let w : n ≡ 1 = (stands_at s at e).wide ∙ ascii-wide c h in
     record { inside = omega arith; chars = codes-on s at e ∙ rw w }
 
-pub peek_on : (s : List ℕ) (at : ℕ) {c n : ℕ} → decode_at s at ≡ Scalar c n → peek_at s at ≡ c
+pub peek_on : (s : List ℕ) (at : ℕ) {c n : ℕ} → decode_at s at ≡ Some (c, n) → peek_at s at ≡ c
 unfolding peek_at
 peek_on s at e = rw (codes-on s at e)
+
+-- what `map_or` makes of a character
+pub peek-by : (s : List ℕ) (at r : ℕ) (Q : ℕ × ℕ → Type 0) → (ch : Option (ℕ × ℕ)) → decode_at s at ≡ ch → MatchOption ch (r ≡ 0) Q → ((x : ℕ × ℕ) → Q x → r ≡ x.0)
+    → r ≡ peek_at s at
+unfolding peek_at
+peek-by s at r Q None e h g = rw (codes_off s at e) h
+peek-by s at r Q (Some (c, n)) e h g = rw (codes-on s at e) (g (c, n) h)
 
 pub next-head : (s : List ℕ) (at x : ℕ) → 1 ≤ x → x < 0x80 → peek_at s at ≡ x → Next s at x
 unfolding peek_at
 next-head s at x h h' = by (decode_at s at) refl
   where
-    by : (ch : Char) → decode_at s at ≡ ch → peek_at s at ≡ x → Next s at x
-    by Ill e g = let z = rw (codes_off s at e) at g in absurd (omega arith)
-    by (Scalar c n) e g = let z = sym (peek_on s at e) ∙ g in subst (Next s at) z (next_of s at e (omega arith))
+    by : (ch : Option (ℕ × ℕ)) → decode_at s at ≡ ch → peek_at s at ≡ x → Next s at x
+    by None e g = let z = rw (codes_off s at e) at g in absurd (omega arith)
+    by (Some (c, n)) e g = let z = sym (peek_on s at e) ∙ g in subst (Next s at) z (next_of s at e (omega arith))

@@ -10,10 +10,10 @@ use native.Mathlib.Omega.{arith}
 use lib.Dec.{leb, ltb}
 use lib.ListN.{length, get_or}
 use borrow.Author.Tests.{lt-ltb, le-ltb, le-leb, ltb-true, leb-true}
+use Rattle.std.proofs.Common.{Some}
 use Rattle.basics.specs.Basics.{within}
 use Rattle.basics.proofs.Tests.{cases, both_true, within_yes, within_hi}
 use Rattle.characters.specs.Utf8.{row, lead_len, char_of, first_char, is_scalar, encode, width}
-use Rattle.characters.specs.declared.Char.TheVariants.{Scalar}
 
 -- ------------------------------------------------------------------ scalars
 
@@ -239,27 +239,27 @@ module _ (c : ℕ) where
   trail : (r : ℕ) → within 0x80 0xBF (0x80 + r % 64) ≡ true
   trail r = within_yes 0x80 0xBF (0x80 + r % 64) (omega arith) (omega arith)
 
-  pub as_1 : (rest : List ℕ) → c < 0x80 → first_char (c ∷ rest) ≡ Scalar c 1
+  pub as_1 : (rest : List ℕ) → c < 0x80 → first_char (c ∷ rest) ≡ Some (c, 1)
   unfolding first_char char_of
   as_1 rest h = rw (lead_1 c (get_or rest 0 0) h)
 
-  as_2 : (rest : List ℕ) → 0x80 ≤ c → c < 0x800 → first_char ((0xC0 + c / 64) ∷ (0x80 + c % 64) ∷ rest) ≡ Scalar c 2
+  as_2 : (rest : List ℕ) → 0x80 ≤ c → c < 0x800 → first_char ((0xC0 + c / 64) ∷ (0x80 + c % 64) ∷ rest) ≡ Some (c, 2)
   unfolding first_char char_of
   as_2 rest h h' =
       rw (lead_2 (0xC0 + c / 64) (0x80 + c % 64) (omega arith) (omega arith) (omega arith) (omega arith))
-      (ap (λ (m : ℕ). Scalar m 2) (omega arith))
+      (ap (λ (m : ℕ). Some (m, 2)) (omega arith))
 
   as_3 : (rest : List ℕ) → IsScalar c → 0x800 ≤ c → c < 0x10000
-      → first_char ((0xE0 + c / 4096) ∷ (0x80 + c / 64 % 64) ∷ (0x80 + c % 64) ∷ rest) ≡ Scalar c 3
+      → first_char ((0xE0 + c / 4096) ∷ (0x80 + c / 64 % 64) ∷ (0x80 + c % 64) ∷ rest) ≡ Some (c, 3)
   unfolding first_char char_of
-  as_3 rest s h h' = rw (three h h' s, trail c) (ap (λ (m : ℕ). Scalar m 3) (omega arith))
+  as_3 rest s h h' = rw (three h h' s, trail c) (ap (λ (m : ℕ). Some (m, 3)) (omega arith))
 
   as_4 : (rest : List ℕ) → IsScalar c → 0x10000 ≤ c
-      → first_char ((0xF0 + c / 262144) ∷ (0x80 + c / 4096 % 64) ∷ (0x80 + c / 64 % 64) ∷ (0x80 + c % 64) ∷ rest) ≡ Scalar c 4
+      → first_char ((0xF0 + c / 262144) ∷ (0x80 + c / 4096 % 64) ∷ (0x80 + c / 64 % 64) ∷ (0x80 + c % 64) ∷ rest) ≡ Some (c, 4)
   unfolding first_char char_of
-  as_4 rest s h = rw (four h (scalar-top c s), trail (c / 64), trail c) (ap (λ (m : ℕ). Scalar m 4) (whole (scalar-top c s)))
+  as_4 rest s h = rw (four h (scalar-top c s), trail (c / 64), trail c) (ap (λ (m : ℕ). Some (m, 4)) (whole (scalar-top c s)))
 
-  pub read_back : (rest : List ℕ) → IsScalar c → first_char (encode c ++ rest) ≡ Scalar c (width c)
+  pub read_back : (rest : List ℕ) → IsScalar c → first_char (encode c ++ rest) ≡ Some (c, width c)
   read_back rest s =
-      by_size c (λ (l : List ℕ). first_char (l ++ rest) ≡ Scalar c (length l))
+      by_size c (λ (l : List ℕ). first_char (l ++ rest) ≡ Some (c, length l))
       (λ h. as_1 rest h) (λ h h'. as_2 rest h h') (λ h h'. as_3 rest s h h') (λ h. as_4 rest s h)

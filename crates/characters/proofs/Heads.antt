@@ -7,11 +7,10 @@ use Prim.Native.Nat.{ℕ, ◌+◌, ◌*◌, ◌%◌, ◌≤◌}
 use native.Mathlib.Omega.{arith}
 use lib.ListN.{length, get_or, drop}
 use lib.Seq.{drop-append_seam}
+use Rattle.std.proofs.Common.{Option, Some, None}
 use Rattle.basics.specs.Basics.{within}
 use Rattle.basics.proofs.Tests.{cases, both_true, within-true}
 use Rattle.characters.specs.Utf8.{row, lead_len, char_of, first_char, encode, width}
-use Rattle.characters.specs.declared.Char.{Char}
-use Rattle.characters.specs.declared.Char.TheVariants.{Scalar, Ill}
 use Rattle.characters.proofs.Encode.{IsScalar, scalar-low, scalar-high, encode_1, encode_2, encode_3, encode_4}
 
 pub row-true : (alo ahi blo bhi a b : ℕ) → row alo ahi blo bhi a b ≡ true → (alo ≤ a) × (a ≤ ahi) × (blo ≤ b) × (b ≤ bhi)
@@ -54,12 +53,12 @@ lead a b =
     (λ e. rw e none)))))))))))))))))
 
 -- a text, and what its first character is
-data Head : List ℕ → Char → Type 0 where
-  begins : {c : ℕ} (rest : List ℕ) → IsScalar c → Head (encode c ++ rest) (Scalar c (width c))
-  ill : {l : List ℕ} → Head l Ill
+data Head : List ℕ → Option (ℕ × ℕ) → Type 0 where
+  begins : {c : ℕ} (rest : List ℕ) → IsScalar c → Head (encode c ++ rest) (Some (c, width c))
+  ill : {l : List ℕ} → Head l None
 
-made : (w rest : List ℕ) (c : ℕ) → IsScalar c → encode c ≡ w → Head (w ++ rest) (Scalar c (length w))
-made w rest c s e = subst (λ (v : List ℕ). Head (v ++ rest) (Scalar c (length v))) e (begins rest s)
+made : (w rest : List ℕ) (c : ℕ) → IsScalar c → encode c ≡ w → Head (w ++ rest) (Some (c, length w))
+made w rest c s e = subst (λ (v : List ℕ). Head (v ++ rest) (Some (c, length v))) e (begins rest s)
 
 -- a code put together from bytes has these bytes
 module _ (a b c d : ℕ) (g : 0x80 ≤ b) (g' : b ≤ 0xBF) where
@@ -81,20 +80,20 @@ module _ (a b c d : ℕ) (g : 0x80 ≤ b) (g' : b ≤ 0xBF) where
 
 -- a byte that is not 0 lies within the text, so each case has as many bytes as it reads
 head_2 : (a : ℕ) (l : List ℕ) → 0xC2 * 64 + 0x80 ≤ a * 64 + get_or l 0 0 → a * 64 + get_or l 0 0 ≤ 0xDF * 64 + 0xBF → 0x80 ≤ get_or l 0 0
-    → get_or l 0 0 ≤ 0xBF → Head (a ∷ l) (Scalar (a % 32 * 64 + get_or l 0 0 % 64) 2)
+    → get_or l 0 0 ≤ 0xBF → Head (a ∷ l) (Some (a % 32 * 64 + get_or l 0 0 % 64, 2))
 head_2 a [] h h' g g' = absurd (omega arith)
 head_2 a (b ∷ l) h h' g g' = made (a ∷ b ∷ []) l _ (scalar-low _ (omega arith)) (bytes_2 a b 0 0 g g' h h')
 
 head_3 : (a : ℕ) (l : List ℕ) → 0xE0 * 64 + 0xA0 ≤ a * 64 + get_or l 0 0 → a * 64 + get_or l 0 0 ≤ 0xEF * 64 + 0xBF → 0x80 ≤ get_or l 0 0
     → get_or l 0 0 ≤ 0xBF → (0x80 ≤ get_or l 1 0) × (get_or l 1 0 ≤ 0xBF) → IsScalar (a % 16 * 4096 + get_or l 0 0 % 64 * 64 + get_or l 1 0 % 64)
-    → Head (a ∷ l) (Scalar (a % 16 * 4096 + get_or l 0 0 % 64 * 64 + get_or l 1 0 % 64) 3)
+    → Head (a ∷ l) (Some (a % 16 * 4096 + get_or l 0 0 % 64 * 64 + get_or l 1 0 % 64, 3))
 head_3 a [] h h' g g' k s = absurd (omega arith)
 head_3 a (b ∷ []) h h' g g' k s = absurd (omega arith)
 head_3 a (b ∷ c ∷ l) h h' g g' k s = made (a ∷ b ∷ c ∷ []) l _ s (bytes_3 a b c 0 g g' k.0 k.1 h h')
 
 head_4 : (a : ℕ) (l : List ℕ) → 0xF0 * 64 + 0x90 ≤ a * 64 + get_or l 0 0 → a * 64 + get_or l 0 0 ≤ 0xF4 * 64 + 0x8F → 0x80 ≤ get_or l 0 0
     → get_or l 0 0 ≤ 0xBF → (0x80 ≤ get_or l 1 0) × (get_or l 1 0 ≤ 0xBF) → (0x80 ≤ get_or l 2 0) × (get_or l 2 0 ≤ 0xBF)
-    → Head (a ∷ l) (Scalar (a % 8 * 262144 + get_or l 0 0 % 64 * 4096 + get_or l 1 0 % 64 * 64 + get_or l 2 0 % 64) 4)
+    → Head (a ∷ l) (Some (a % 8 * 262144 + get_or l 0 0 % 64 * 4096 + get_or l 1 0 % 64 * 64 + get_or l 2 0 % 64, 4))
 head_4 a [] h h' g g' k j = absurd (omega arith)
 head_4 a (b ∷ []) h h' g g' k j = absurd (omega arith)
 head_4 a (b ∷ c ∷ []) h h' g g' k j = absurd (omega arith)
@@ -129,9 +128,9 @@ pub record Stands (l : List ℕ) (c n : ℕ) : Type 0 where
   pub wide : n ≡ width c
   pub bytes : l ≡ encode c ++ drop n l
 
-head-out : {l : List ℕ} {c n : ℕ} → Head l (Scalar c n) → Stands l c n
+head-out : {l : List ℕ} {c n : ℕ} → Head l (Some (c, n)) → Stands l c n
 head-out (begins {c = c} rest s) =
     record { scalar = s; wide = refl; bytes = ap (λ (r : List ℕ). encode c ++ r) (sym (drop-append_seam (encode c) rest)) }
 
-pub stands : (l : List ℕ) {c n : ℕ} → first_char l ≡ Scalar c n → Stands l c n
+pub stands : (l : List ℕ) {c n : ℕ} → first_char l ≡ Some (c, n) → Stands l c n
 stands l e = head-out (subst (Head l) e (begun l))

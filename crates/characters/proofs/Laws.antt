@@ -1,20 +1,20 @@
 -- A character at a place lies within the text, and the check of a text goes on after it.
 -- Assumes nothing.
-use mathlib.Core.Path.{◌≡◌, refl, ◌∙◌, ap, ap₂}
+use mathlib.Core.Path.{◌≡◌, refl, sym, ◌∙◌, ap, ap₂}
 use mathlib.Core.List.{List, [], ◌∷◌}
 use Prim.Native.Nat.{ℕ, zero, suc, ◌+◌, ◌-◌, ◌≤◌, ◌<◌}
 use native.Mathlib.Omega.{arith}
 use native.Mathlib.Nat.{add-zero, le_of_suc-le-suc, not-suc-le-zero}
-use lib.ListN.{length, get_or, drop, length-drop, length-append, drop_of_length-le}
-use lib.Seq.{drop-cons, drop-drop}
+use lib.ListN.{length, get_or, take, drop, length-drop, length-append, drop_of_length-le}
+use lib.Seq.{drop-cons, drop-drop, take_all}
+use Rattle.std.proofs.Common.{Some, None, Ok, Err}
+use Rattle.characters.specs.Utf8.{ill_at}
 use Rattle.characters.specs.Utf8.{lead_len, char_of, first_char, on_char, encode, check_from}
 use Rattle.characters.specs.Places.{decode_at}
-use Rattle.characters.specs.declared.Checked.TheVariants.{Good, IllAt}
-use Rattle.characters.specs.declared.Char.TheVariants.{Scalar, Ill}
 use Rattle.characters.proofs.Encode.{width_some, as_1}
 use Rattle.characters.proofs.Heads.{stands}
 
-pub first_fits : (l : List ℕ) {c n : ℕ} → first_char l ≡ Scalar c n → (1 ≤ n) × (n ≤ length l)
+pub first_fits : (l : List ℕ) {c n : ℕ} → first_char l ≡ Some (c, n) → (1 ≤ n) × (n ≤ length l)
 first_fits l {c} {n} e =
     let s = stands l e in
     let w = s.wide in
@@ -22,7 +22,7 @@ first_fits l {c} {n} e =
     let k = width_some c in (omega arith, omega arith)
 
 -- a character at a place lies within the text
-pub scalar_fits : (s : List ℕ) (at : ℕ) {c n : ℕ} → decode_at s at ≡ Scalar c n → (1 ≤ n) × (at + n ≤ length s)
+pub scalar_fits : (s : List ℕ) (at : ℕ) {c n : ℕ} → decode_at s at ≡ Some (c, n) → (1 ≤ n) × (at + n ≤ length s)
 unfolding decode_at
 scalar_fits s at {c} {n} e =
     let f = first_fits (drop at s) e in
@@ -52,30 +52,32 @@ check-one j at x xs = refl
 
 module _ (s : List ℕ) (at : ℕ) where
   check-at : at < length s
-      → check_from 0 at (drop at s) ≡ on_char (decode_at s at) (λ _ n. check_from (n - 1) (at + 1) (drop (suc at) s)) (IllAt at)
+      → check_from 0 at (drop at s) ≡ on_char (decode_at s at) (λ _ n. check_from (n - 1) (at + 1) (drop (suc at) s)) (Err (ill_at at))
   unfolding check_from decode_at
   check-at l = simp (drop-cons s at 0)
 
-  pub check-on : {c n : ℕ} → decode_at s at ≡ Scalar c n → check_from 0 at (drop at s) ≡ check_from 0 (at + n) (drop (at + n) s)
+  pub check-on : {c n : ℕ} → decode_at s at ≡ Some (c, n) → check_from 0 at (drop at s) ≡ check_from 0 (at + n) (drop (at + n) s)
   unfolding on_char
   check-on {c} {n} e = let f = scalar_fits s at e in check-at (omega arith) ∙ simp e (next check_from check-one s at n f.0 f.1)
 
-  pub check-bad : at < length s → decode_at s at ≡ Ill → check_from 0 at (drop at s) ≡ IllAt at
+  pub check-bad : at < length s → decode_at s at ≡ None → check_from 0 at (drop at s) ≡ Err (ill_at at)
   unfolding on_char
   check-bad l e = check-at l ∙ simp e
 
-  pub check-end : length s ≤ at → check_from 0 at (drop at s) ≡ Good
+  pub check-end : length s ≤ at → check_from 0 at (drop at s) ≡ Ok tt
   unfolding check_from
   check-end l = simp (drop_of_length-le s l)
 
 -- an ASCII byte is a character by itself
-pub ascii-at : (s : List ℕ) (at : ℕ) → at < length s → get_or s at 0 < 0x80 → decode_at s at ≡ Scalar (get_or s at 0) 1
+pub ascii-at : (s : List ℕ) (at : ℕ) → at < length s → get_or s at 0 < 0x80 → decode_at s at ≡ Some (get_or s at 0, 1)
 unfolding decode_at
 ascii-at s at h g = rw (drop-cons s at 0) (as_1 (get_or s at 0) (drop (suc at) s) g)
 
+pub ascii-by : (s : List ℕ) (at b : ℕ) → at < length s → b ≡ get_or s at 0 → b < 0x80 → Some (b, 1) ≡ decode_at s at
+ascii-by s at b h e g = rw e (sym (ascii-at s at h (rw e at g)))
+
 -- a character by the bytes from a place on
-pub bytes-at : (s : List ℕ) (at : ℕ) → at < length s
-    → decode_at s at
-    ≡ char_of (lead_len (get_or (drop at s) 0 0) (get_or (drop at s) 1 0)) (get_or (drop at s) 0 0) (get_or (drop at s) 1 0) (get_or (drop at s) 2 0) (get_or (drop at s) 3 0)
+pub bytes-at : (s : List ℕ) (at : ℕ) → at < length s → (r : List ℕ) → r ≡ take (length s - at) (drop at s)
+    → decode_at s at ≡ char_of (lead_len (get_or r 0 0) (get_or r 1 0)) (get_or r 0 0) (get_or r 1 0) (get_or r 2 0) (get_or r 3 0)
 unfolding decode_at first_char
-bytes-at s at h = rw (drop-cons s at 0)
+bytes-at s at h r e = rw (e, take_all (length s - at) (drop at s) (simp length-drop (omega arith)), drop-cons s at 0)

@@ -4,9 +4,9 @@ use mathlib.Core.Path.{◌≡◌}
 use mathlib.Core.Bool.{Bool, true, false}
 use mathlib.Core.List.{List, ◌∷◌}
 use Prim.Native.Nat.{ℕ, suc, ◌+◌}
+use Rattle.std.proofs.Common.{Some, None}
 use Rattle.characters.specs.Places.{decode_at, past, run}
 use Rattle.characters.specs.Promise.{run_end}
-use Rattle.characters.specs.declared.Char.TheVariants.{Scalar, Ill}
 use Rattle.characters.proofs.Chars.{codes-on, codes_off, stands_at}
 
 module _ (p : ℕ → Bool) (c : ℕ) (cs : List ℕ) where
@@ -19,14 +19,14 @@ module _ (p : ℕ → Bool) (c : ℕ) (cs : List ℕ) where
   run_no w = rw (w, run)
 
 module _ (p : ℕ → Bool) (s : List ℕ) (at : ℕ) where
-  pub run_on : {c n : ℕ} → decode_at s at ≡ Scalar c n → p c ≡ true → run_end p s at ≡ run_end p s (at + n)
+  pub run_on : {c n : ℕ} → decode_at s at ≡ Some (c, n) → p c ≡ true → run_end p s at ≡ run_end p s (at + n)
   unfolding run_end past
   run_on e w = rw (codes-on s at e, run_yes p _ _ w, (stands_at s at e).wide)
 
-  pub run_off : {c n : ℕ} → decode_at s at ≡ Scalar c n → p c ≡ false → run_end p s at ≡ at
+  pub run_off : {c n : ℕ} → decode_at s at ≡ Some (c, n) → p c ≡ false → run_end p s at ≡ at
   unfolding run_end past
   run_off e w = rw (codes-on s at e, run_no p _ _ w)
 
-  pub run-ill : decode_at s at ≡ Ill → run_end p s at ≡ at
+  pub run-ill : decode_at s at ≡ None → run_end p s at ≡ at
   unfolding run_end run past
   run-ill e = rw (codes_off s at e)

@@ -10,7 +10,7 @@ use native.Mathlib.Numerals.{add-one}
 use native.Mathlib.Omega.{arith}
 use lib.Dec.{eqb, ltb}
 use lib.ListN.{length, get_or, take, drop, length-drop, drop_of_length-le}
-use lib.Seq.{drop-cons, drop-drop, get_or-drop}
+use lib.Seq.{drop-cons, drop-drop}
 use borrow.Author.Tests.{lt-ltb, le-ltb, ne_eqb, ltb-true}
 use Rattle.basics.specs.Basics.{every}
 use Rattle.basics.proofs.Tests.{cases, both_true}
@@ -66,11 +66,10 @@ unfolding is_ascii
 ascii_no b h = le-ltb b 0x80 h
 
 -- the sum of the high bits is 0 as long as all bytes are ASCII
-pub high-more : (s : List ℕ) (at k high : ℕ) → at + k < length s → eqb high 0 ≡ every is_ascii (take k (drop at s))
-    → eqb (high + get_or s (at + k) 0 / 128) 0 ≡ every is_ascii (take (k + 1) (drop at s))
+pub high-more : (s : List ℕ) (k high : ℕ) → k < length s → eqb high 0 ≡ every is_ascii (take k s)
+    → eqb (high + get_or s k 0 / 128) 0 ≡ every is_ascii (take (k + 1) s)
 unfolding is_ascii
-high-more s at k high h e =
-    rw (add-one, every_more is_ascii (drop at s) k (simp length-drop (omega arith)), ← e, get_or-drop) (sum high (get_or s (at + k) 0))
+high-more s k high h e = rw (add-one, every_more is_ascii s k h, ← e) (sum high (get_or s k 0))
   where
     sum : (a b : ℕ) → eqb (a + b / 128) 0 ≡ (eqb a 0 && ltb b 0x80)
     sum a b =

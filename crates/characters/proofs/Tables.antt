@@ -3,12 +3,14 @@
 use mathlib.Core.Path.{◌≡◌, refl}
 use mathlib.Core.Bool.{Bool, true, false}
 use mathlib.Core.List.{List, [], ◌∷◌}
-use Prim.Native.Nat.{ℕ, zero, suc, ◌+◌, ◌%◌, ◌≤◌, ◌<◌, zero-le, suc-le-suc}
+use Prim.Native.Nat.{ℕ, zero, suc, ◌%◌, ◌≤◌, ◌<◌, zero-le, suc-le-suc}
 use native.Mathlib.Nat.{le_refl, le_of_lt, le_of_suc-le-suc, not-suc-le-zero}
 use native.Mathlib.Omega.{arith}
-use lib.Dec.{T, ltb, eqb, ltb→lt}
+use lib.Dec.{T, leb, ltb, eqb, ltb→lt}
+use Rattle.std.specs.List.Sorted.{IsPartitionedBy, IsPartitionPoint}
+use Rattle.std.proofs.lemmas.List.Sorted.{IsPartitionedBy-leb, IsNonDecreasingBy-from_default}
 use lib.ListN.{length, get_or}
-use borrow.Author.Tests.{lt-ltb, le-ltb, le-leb, lt-leb}
+use borrow.Author.Tests.{lt-ltb, le-ltb, le-leb, lt-leb, leb-true, leb-false}
 use Rattle.basics.proofs.Tests.{and_left, and_right}
 use Rattle.characters.specs.Spans.{Span, in_spans}
 use Rattle.characters.specs.Promise.{flat, ascending, Split}
@@ -70,33 +72,13 @@ in-spans l x k s = rw (← odd_mod k) (in_odd l x k s)
 
 -- ------------------------------------------------------------------ the search
 
--- what is before lo is at most x, and what is from hi on is above it
-pub record Bracket (l : List ℕ) (x lo hi : ℕ) : Type 0 where
-  pub order : lo ≤ hi
-  pub size : hi ≤ length l
-  pub upto : (i : ℕ) → i < lo → get_or l i 0 ≤ x
-  pub rest : (i : ℕ) → hi ≤ i → i < length l → x < get_or l i 0
+module _ (l : List ℕ) (x : ℕ) where
+  pub partitioned : T (ascending 0 l) → IsPartitionedBy (λ y. leb y x) l
+  partitioned t = IsPartitionedBy-leb (λ y. y) l x (IsNonDecreasingBy-from_default (λ y. y) l 0 (sorted l 0 t))
 
-module _ (l : List ℕ) (x : ℕ) (t : T (ascending 0 l)) where
-  pub bracket-start : Bracket l x 0 (length l)
-  bracket-start = record { order = zero-le; size = le_refl _; upto = λ i h. absurd (not-suc-le-zero h); rest = λ i h h'. absurd (omega arith) }
-
-  pub bracket_up : {lo hi : ℕ} (m : ℕ) → Bracket l x lo hi → m < hi → get_or l m 0 ≤ x → Bracket l x (m + 1) hi
-  bracket_up m b h e = record {
-    order = omega arith;
-    size = b.size;
-    upto = λ i i<. let o = sorted l 0 t i m (omega arith) (omega (arith, b.size)) in omega arith;
-    rest = b.rest;
+  pub split : (k : ℕ) → k ≤ length l → IsPartitionPoint (λ y. leb y x ≡ true) (λ y. leb y x ≡ false) l k → Split l x k
+  split k h p = record {
+    within = h;
+    upto = λ i i<. leb-true _ _ (p.0 i 0 zero-le i<);
+    rest = λ i i≥ i<. leb-false _ _ (p.1 i 0 i≥ i<);
   }
-
-  pub bracket_down : {lo hi : ℕ} (m : ℕ) → Bracket l x lo hi → lo ≤ m → m < hi → x < get_or l m 0 → Bracket l x lo m
-  bracket_down m b h h' e = record {
-    order = h;
-    size = omega (arith, b.size);
-    upto = b.upto;
-    rest = λ i i≥ i<. let o = sorted l 0 t m i i≥ i< in omega arith;
-  }
-
-  -- where the bracket has closed
-  pub bracket-end : {lo hi : ℕ} → Bracket l x lo hi → hi ≤ lo → Split l x lo
-  bracket-end b h = record { within = omega (arith, b.order, b.size); upto = b.upto; rest = λ i i≥ i<. b.rest i (omega arith) i< }

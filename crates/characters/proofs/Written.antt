@@ -7,7 +7,7 @@ use Prim.Native.Nat.{ℕ, ◌+◌, ◌-◌, ◌≤◌, ◌<◌}
 use native.Mathlib.Omega.{arith}
 use native.Mathlib.Decide.{dec_le}
 use lib.ListN.{take-append-drop, length, take, drop, length-append, length-drop, drop_of_length-le}
-use lib.Seq.{sets, sets-eq, length-take-le, take_all, take_at, drop_at, drop-drop}
+use lib.Seq.{length-take-le, take_all, take_at, drop_at, drop-drop}
 use borrow.Rule.Slice.PartMut.{put_mid}
 use borrow.Author.Tests.{le-leb, lt-leb}
 use Rattle.characters.specs.Utf8.{is_scalar, encode, encode_all}
@@ -31,6 +31,9 @@ module _ (out : List ℕ) (at : ℕ) (bs : List ℕ) where
             ap length (written_in h) ∙ simp (length-append, length-drop, l) (omega arith)
         | no h ↦ ap length (written_not (omega arith))
       ]
+
+pub written_none : (out : List ℕ) → written out 0 [] ≡ out
+written_none out = written_in out 0 [] (omega arith)
 
 -- what is written to the start of a part of the whole
 module _ (bs : List ℕ) where
@@ -67,14 +70,6 @@ module _ (c : ℕ) where
   pub bytes-some : IsScalar c → scalar_bytes c ≡ encode c
   unfolding scalar_bytes
   bytes-some e = rw e
-
--- what is left of a part, and the count, where the bytes of a code fit and where they do not
-module _ (out : List ℕ) (c : ℕ) (bs : List ℕ) (e : scalar_bytes c ≡ bs) where
-  pub put-out : length out < length bs → (length bs ≡ length (scalar_bytes c)) × (out ≡ written out 0 (scalar_bytes c))
-  put-out h = rw e (refl, sym (written_not out 0 bs (omega arith)))
-
-  pub put_in : length bs ≤ length out → (length bs ≡ length (scalar_bytes c)) × (sets out 0 bs ≡ written out 0 (scalar_bytes c))
-  put_in h = rw e (refl, sets-eq bs out 0 (omega arith) ∙ sym (written_in out 0 bs (omega arith)))
 
 -- ------------------------------------------------------------------ several
 

@@ -1,12 +1,11 @@
 -- Places in the bytes of a text, and the characters that stand there.
 -- Assumes nothing.
-use Rattle.std.specs.Prelude.{Bool, true, false, List, [], ◌∷◌, ℕ, zero, suc, ◌+◌, ◌-◌, take, drop}
+use Rattle.std.specs.Prelude.{Option, Bool, true, false, List, [], ◌∷◌, ℕ, zero, suc, ◌+◌, ◌-◌, take, drop}
 use Rattle.basics.specs.Basics.{head}
-use Rattle.characters.specs.declared.Char.{Char}
 use Rattle.characters.specs.Utf8.{first_char, codes, width}
 
 -- the character at a place
-unfoldable pub decode_at : List ℕ → ℕ → Char
+unfoldable pub decode_at : List ℕ → ℕ → Option (ℕ × ℕ)
 decode_at text at = first_char (drop at text)
 
 -- the characters from a place on

@@ -11,46 +11,43 @@ ghost use Rattle.characters.specs.Spans.{Span, in_spans};
 ghost use Rattle.characters.specs.Alphabetic.{is_alphabetic};
 ghost use Rattle.characters.specs.Classes.{is_ascii, is_ascii_digit, is_ascii_hexdigit, is_whitespace, is_ecmascript_whitespace, is_line_terminator, is_punctuation, is_word};
 ghost use Rattle.characters.specs.Promise.{is_second, run_end, written, scalar_bytes, ascending, flat, Split, is_ascii_letter, is_ascii_space, is_ascii_word};
+ghost use Rattle.error.specs.declared.Cause.TheVariants.{NotUtf8};
 
+use error::{Cause, Stop};
 use table::{ALPHABETIC, WHITE_SPACE};
 
-// The character at a place: its code and how many bytes it takes.
-#[derive(Clone, Copy)]
-pub enum Char {
-    Scalar(u32, usize),
-    Ill,
+// A text is not UTF-8: where its first ill-formed sequence starts.
+#[derive(Clone, Copy, Debug, PartialEq, Eq)]
+pub struct IllFormed {
+    pub at: usize,
 }
 
-// Whether a text is UTF-8, or where its first ill-formed sequence starts.
-#[derive(Clone, Copy)]
-pub enum Checked {
-    Good,
-    IllAt(usize),
+impl From<IllFormed> for Stop {
+    ghost from_gives = { λ e s. s ≡ record { cause = NotUtf8; place = e.at } };
+
+    fn from(e: IllFormed) -> Stop {
+        Stop {
+            cause: Cause::NotUtf8,
+            place: e.at,
+        }
+    }
 }
 
-// The byte k places after a place as a number, or 0 past the end: 0 continues no character.
-fn byte_from(text: &[u8], at: usize, k: usize) -> u32
-    ensures { result ≡ get_or (drop at text.now) k 0 }
+// A byte as a number, or 0 past the end: 0 continues no character.
+fn byte_at(text: &[u8], k: usize) -> u32
+    ensures { result ≡ get_or text.now k 0 }
 {
-    if text.len() <= at {
-        return 0;
-    }
-    if k < text.len() - at {
-        return text[at + k] as u32;
-    }
-    0
+    text.get(k).map_or(0, |&b| b as u32)
 }
 
 fn is_within(lo: u32, hi: u32, x: u32) -> bool
     ensures { result ≡ within lo hi x }
 {
-    if x < lo {
-        return false;
-    }
-    x <= hi
+    lo <= x && x <= hi
 }
 
 // Whether b may come second after a first byte of two or more: the second column of table 3-7.
+#[tactic(auto, using(std::proofs::lemmas::Bool::Decides::nat_tests), unfolding(crate::specs::Promise::is_second))]
 fn is_second(a: u32, b: u32) -> bool
     ensures { result ≡ is_second a b }
 {
@@ -64,78 +61,56 @@ fn is_second(a: u32, b: u32) -> bool
 }
 
 // How many bytes the character takes that starts with a and b; 0 where none does.
+#[tactic(auto, using(crate::proofs::Encode::lead_1, crate::proofs::Leads::len_0, crate::proofs::Leads::len_2, crate::proofs::Leads::len_3, crate::proofs::Leads::len_4))]
 fn lead_len(a: u32, b: u32) -> usize
     ensures { result ≡ lead_len a b }
 {
-    if a < 0x80 {
-        return 1;
+    match a {
+        0..=0x7F => 1,
+        0xC2..=0xDF if is_second(a, b) => 2,
+        0xE0..=0xEF if is_second(a, b) => 3,
+        0xF0..=0xF4 if is_second(a, b) => 4,
+        _ => 0,
     }
-    if a < 0xC2 {
-        return 0;
-    }
-    if !is_second(a, b) {
-        return 0;
-    }
-    if a < 0xE0 {
-        return 2;
-    }
-    if a < 0xF0 {
-        return 3;
-    }
-    if a < 0xF5 {
-        return 4;
-    }
-    0
 }
 
 // The character that takes n bytes and has these.
-fn of_len(n: usize, a: u32, b: u32, c: u32, d: u32) -> Char
+#[tactic(auto, using(std::proofs::lemmas::Bool::Decides::nat_tests), unfolding(crate::specs::Utf8::char_of))]
+fn of_len(n: usize, a: u32, b: u32, c: u32, d: u32) -> Option<(u32, usize)>
     ensures { result ≡ char_of n a b c d }
 {
     match n {
-        1 => Char::Scalar(a, 1),
-        2 => Char::Scalar(a % 32 * 64 + b % 64, 2),
-        3 => {
-            if is_within(0x80, 0xBF, c) {
-                return Char::Scalar(a % 16 * 4096 + b % 64 * 64 + c % 64, 3);
-            }
-            Char::Ill
+        1 => Some((a, 1)),
+        2 => Some((a % 32 * 64 + b % 64, 2)),
+        3 if is_within(0x80, 0xBF, c) => Some((a % 16 * 4096 + b % 64 * 64 + c % 64, 3)),
+        4 if is_within(0x80, 0xBF, c) && is_within(0x80, 0xBF, d) => {
+            Some((a % 8 * 262144 + b % 64 * 4096 + c % 64 * 64 + d % 64, 4))
         }
-        4 => {
-            if !is_within(0x80, 0xBF, c) {
-                return Char::Ill;
-            }
-            if is_within(0x80, 0xBF, d) {
-                return Char::Scalar(a % 8 * 262144 + b % 64 * 4096 + c % 64 * 64 + d % 64, 4);
-            }
-            Char::Ill
-        }
-        _ => Char::Ill,
+        _ => None,
     }
 }
 
 // The character at a place within the text, by all four bytes.
-fn decode_wide(text: &[u8], at: usize) -> Char
+fn decode_wide(text: &[u8], at: usize) -> Option<(u32, usize)>
     requires { at < length text.now }
     ensures { result ≡ decode_at text.now at }
 {
-    let a = byte_from(text, at, 0);
-    let b = byte_from(text, at, 1);
-    let c = byte_from(text, at, 2);
-    let d = byte_from(text, at, 3);
+    let rest = &text[at..];
+    let a = byte_at(rest, 0);
+    let b = byte_at(rest, 1);
+    let c = byte_at(rest, 2);
+    let d = byte_at(rest, 3);
     of_len(lead_len(a, b), a, b, c, d)
 }
 
-// The character at a place. An ASCII byte is one by itself; the rest stands apart, so that callers take this much in.
-pub fn decode(text: &[u8], at: usize) -> Char
+// The character at a place: its code and how many bytes it takes. An ASCII byte is one by itself; the rest stands apart, so that callers
+// take this much in.
+pub fn decode(text: &[u8], at: usize) -> Option<(u32, usize)>
     ensures { result ≡ decode_at text.now at }
 {
-    if text.len() <= at {
-        return Char::Ill;
-    }
-    let a = text[at] as u32;
+    let &a = text.get(at)?;
     if a < 0x80 {
-        return Char::Scalar(a, 1);
+        return Some((a as u32, 1));
     }
     decode_wide(text, at)
 }
@@ -144,20 +119,17 @@ pub fn decode(text: &[u8], at: usize) -> Char
 pub fn peek(text: &[u8], at: usize) -> u32
     ensures { result ≡ peek_at text.now at }
 {
-    let Char::Scalar(c, _) = decode(text, at) else {
-        return 0;
-    };
-    c
+    decode(text, at).map_or(0, |(c, _)| c)
 }
 
-// Whether the 128 bytes from a place on are ASCII. The sum has no branch, so that many bytes are taken at a time.
-fn is_ascii_block(text: &[u8], at: usize) -> bool
-    requires { at + 128 ≤ length text.now }
-    ensures { result ≡ every is_ascii (take 128 (drop at text.now)) }
+// Whether some bytes are all ASCII. The sum has no branch, so that many bytes are taken at a time.
+fn is_ascii_block(block: &[u8]) -> bool
+    requires { length block.now < 256 }
+    ensures { result ≡ every is_ascii block.now }
 {
     let mut high: u8 = 0;
-    for k in 0..128 {
-        high += text[at + k] / 128;
+    for b in block {
+        high += b / 128;
     }
     high == 0
 }
@@ -168,23 +140,17 @@ fn skip_ascii(text: &[u8], from: usize) -> usize
     ensures { result ≡ from + run is_ascii (drop from text.now) }
 {
     let mut at = from;
-    while 128 <= text.len() - at {
-        if !is_ascii_block(text, at) {
-            break;
-        }
+    while 128 <= text.len() - at && is_ascii_block(&text[at..at + 128]) {
         at += 128;
     }
-    while at < text.len() {
-        if 0x80 <= text[at] {
-            return at;
-        }
+    while at < text.len() && text[at] < 0x80 {
         at += 1;
     }
     at
 }
 
 // Whether a text is UTF-8.
-pub fn check(text: &[u8]) -> Checked
+pub fn check(text: &[u8]) -> Result<(), IllFormed>
     ensures { result ≡ check text.now }
 {
     let mut at = 0;
@@ -192,26 +158,31 @@ pub fn check(text: &[u8]) -> Checked
         if text[at] < 0x80 {
             at = skip_ascii(text, at);
         } else {
-            let Char::Scalar(_, n) = decode_wide(text, at) else {
-                return Checked::IllAt(at);
+            let Some((_, n)) = decode_wide(text, at) else {
+                return Err(IllFormed { at });
             };
             at += n;
         }
     }
-    Checked::Good
+    Ok(())
 }
 
 // Whether a code is a scalar: `char::from_u32` has a character for it.
+#[tactic(auto, using(std::proofs::lemmas::Bool::Decides::nat_tests), unfolding(crate::specs::Utf8::is_scalar))]
 pub fn is_scalar(code: u32) -> bool
     ensures { result ≡ is_scalar code }
 {
-    if code < 0xD800 {
-        return true;
+    matches!(code, 0..=0xD7FF | 0xE000..=0x10FFFF)
+}
+
+// Writes bytes to the start of a part, where they fit, and counts them in any case.
+fn lay<const N: usize>(out: &mut [u8], bytes: [u8; N]) -> usize
+    ensures { (result ≡ N) × (out.new ≡ written out.old 0 bytes.entry) }
+{
+    if N <= out.len() {
+        out[..N].copy_from_slice(&bytes);
     }
-    if code < 0xE000 {
-        return false;
-    }
-    code < 0x110000
+    N
 }
 
 // Writes the bytes of a scalar to the start of a part, where they fit, and counts them in any case. A code that is no scalar has none.
@@ -222,37 +193,18 @@ pub fn encode_utf8(out: &mut [u8], code: u32) -> usize
         return 0;
     }
     if code < 0x80 {
-        if out.len() < 1 {
-            return 1;
-        }
-        out[0] = code as u8;
-        return 1;
+        return lay(out, [code as u8]);
     }
+    let last = (0x80 + code % 64) as u8;
     if code < 0x800 {
-        if out.len() < 2 {
-            return 2;
-        }
-        out[0] = (0xC0 + code / 64) as u8;
-        out[1] = (0x80 + code % 64) as u8;
-        return 2;
+        return lay(out, [(0xC0 + code / 64) as u8, last]);
     }
+    let third = (0x80 + code / 64 % 64) as u8;
     if code < 0x10000 {
-        if out.len() < 3 {
-            return 3;
-        }
-        out[0] = (0xE0 + code / 4096) as u8;
-        out[1] = (0x80 + code / 64 % 64) as u8;
-        out[2] = (0x80 + code % 64) as u8;
-        return 3;
+        return lay(out, [(0xE0 + code / 4096) as u8, third, last]);
     }
-    if out.len() < 4 {
-        return 4;
-    }
-    out[0] = (0xF0 + code / 262144) as u8;
-    out[1] = (0x80 + code / 4096 % 64) as u8;
-    out[2] = (0x80 + code / 64 % 64) as u8;
-    out[3] = (0x80 + code % 64) as u8;
-    4
+    let second = (0x80 + code / 4096 % 64) as u8;
+    lay(out, [(0xF0 + code / 262144) as u8, second, third, last])
 }
 
 // The same from a place on.
@@ -270,17 +222,7 @@ fn count_upto(table: &[u32], x: u32) -> usize
     requires { T (ascending 0 table.now) }
     ensures { Split table.now x result }
 {
-    let mut lo = 0;
-    let mut hi = table.len();
-    while lo < hi {
-        let mid = lo + (hi - lo) / 2;
-        if table[mid] <= x {
-            lo = mid + 1;
-        } else {
-            hi = mid;
-        }
-    }
-    lo
+    table.partition_point(|&e| e <= x)
 }
 
 // Whether the spans with these ends have a code: an odd number of the ends is at most the code.
@@ -291,16 +233,16 @@ fn in_spans(ends: &[u32], code: u32) -> bool
     count_upto(ends, code) % 2 == 1
 }
 
+#[tactic(auto, using(std::proofs::lemmas::Bool::Decides::nat_tests), unfolding(crate::specs::Promise::is_ascii_letter))]
 fn is_ascii_letter(code: u32) -> bool
     ensures { result ≡ is_ascii_letter code }
 {
-    if is_within(0x41, 0x5A, code) {
-        return true;
-    }
-    is_within(0x61, 0x7A, code)
+    is_within(0x41, 0x5A, code) || is_within(0x61, 0x7A, code)
 }
 
-// A borrowed constant is copied where its function starts: the functions with a table have nothing else.
+// A borrowed constant is copied where its function starts: the functions with a table have nothing else. They stand apart from their
+// callers, so that these are taken in.
+#[inline(never)]
 fn in_alphabetic(code: u32) -> bool
     ensures { result ≡ is_alphabetic code }
 {
@@ -317,15 +259,14 @@ pub fn is_alphabetic(code: u32) -> bool
     in_alphabetic(code)
 }
 
+#[tactic(auto, using(std::proofs::lemmas::Bool::Decides::nat_tests), unfolding(crate::specs::Promise::is_ascii_space))]
 fn is_ascii_space(code: u32) -> bool
     ensures { result ≡ is_ascii_space code }
 {
-    if code == 0x20 {
-        return true;
-    }
-    is_within(0x09, 0x0D, code)
+    code == 0x20 || is_within(0x09, 0x0D, code)
 }
 
+#[inline(never)]
 fn in_white_space(code: u32) -> bool
     ensures { result ≡ is_whitespace code }
 {
@@ -342,28 +283,26 @@ pub fn is_whitespace(code: u32) -> bool
     in_white_space(code)
 }
 
+#[tactic(auto, using(std::proofs::lemmas::Bool::Decides::nat_tests), unfolding(crate::specs::Classes::is_ascii_digit))]
 pub fn is_ascii_digit(code: u32) -> bool
     ensures { result ≡ is_ascii_digit code }
 {
     is_within(0x30, 0x39, code)
 }
 
+#[tactic(auto, using(std::proofs::lemmas::Bool::Decides::nat_tests), unfolding(crate::specs::Classes::is_ascii_hexdigit, crate::specs::Classes::is_ascii_digit))]
 pub fn is_ascii_hexdigit(code: u32) -> bool
     ensures { result ≡ is_ascii_hexdigit code }
 {
-    if is_ascii_digit(code) {
-        return true;
-    }
-    if is_within(0x41, 0x46, code) {
-        return true;
-    }
-    is_within(0x61, 0x66, code)
+    is_ascii_digit(code) || is_within(0x41, 0x46, code) || is_within(0x61, 0x66, code)
 }
 
 // One of `[]()!~+*?{}<>.,|:$=`, in this order.
+#[tactic(auto, using(std::proofs::lemmas::Bool::Decides::nat_tests), unfolding(crate::specs::Classes::is_punctuation))]
 pub fn is_punctuation(code: u32) -> bool
     ensures { result ≡ is_punctuation code }
 {
+    // One arm each: with `|` this takes half as long again.
     match code {
         0x5B => true,
         0x5D => true,
@@ -388,19 +327,11 @@ pub fn is_punctuation(code: u32) -> bool
     }
 }
 
+#[tactic(auto, using(std::proofs::lemmas::Bool::Decides::nat_tests), unfolding(crate::specs::Promise::is_ascii_word, crate::specs::Classes::is_ascii_digit))]
 fn is_ascii_word(code: u32) -> bool
     ensures { result ≡ is_ascii_word code }
 {
-    if is_ascii_letter(code) {
-        return true;
-    }
-    if is_ascii_digit(code) {
-        return true;
-    }
-    if code == 0x5F {
-        return true;
-    }
-    code == 0x2D
+    is_ascii_letter(code) || is_ascii_digit(code) || code == 0x5F || code == 0x2D
 }
 
 // Whether a code may stand in a name.
@@ -424,16 +355,11 @@ pub fn is_ecmascript_whitespace(code: u32) -> bool
     }
 }
 
+#[tactic(auto, using(std::proofs::lemmas::Bool::Decides::nat_tests), unfolding(crate::specs::Classes::is_line_terminator))]
 pub fn is_line_terminator(code: u32) -> bool
     ensures { result ≡ is_line_terminator code }
 {
-    match code {
-        0x0A => true,
-        0x0D => true,
-        0x2028 => true,
-        0x2029 => true,
-        _ => false,
-    }
+    matches!(code, 0x0A | 0x0D | 0x2028 | 0x2029)
 }
 
 // The end of the word characters from a place on: `scan_while` with `is_word`.
@@ -441,13 +367,11 @@ pub fn scan_word(text: &[u8], from: usize) -> usize
     ensures { result ≡ run_end is_word text.now from }
 {
     let mut at = from;
-    loop {
-        let Char::Scalar(c, n) = decode(text, at) else {
-            return at;
-        };
+    while let Some((c, n)) = decode(text, at) {
         if !is_word(c) {
-            return at;
+            break;
         }
         at += n;
     }
+    at
 }

@@ -9,17 +9,15 @@ ghost use Rattle.characters.specs.Promise.{run_end, written, scalar_bytes};
 ghost use Rattle.error.specs.Lines.{line_at, column_at};
 ghost use Rattle.characters_c.specs.Upto.{valid_upto};
 
-use characters::Checked;
-
 // Where the first ill-formed sequence starts, or the length.
 #[unsafe(no_mangle)]
 pub extern "C" fn characters_check(text: &[u8]) -> usize
     ensures { result ≡ valid_upto (check text.now) (length text.now) }
 {
-    let Checked::IllAt(at) = characters::check(text) else {
-        return text.len();
-    };
-    at
+    match characters::check(text) {
+        Ok(()) => text.len(),
+        Err(e) => e.at,
+    }
 }
 
 #[unsafe(no_mangle)]
@@ -103,14 +101,12 @@ pub extern "C" fn characters_is_line_terminator(code: u32) -> bool
 pub extern "C" fn error_line(text: &[u8], place: usize) -> usize
     ensures { result ≡ line_at text.now place }
 {
-    let info = error::line_info(text, place);
-    info.line
+    error::line_info(text, place).line
 }
 
 #[unsafe(no_mangle)]
 pub extern "C" fn error_column(text: &[u8], place: usize) -> usize
     ensures { result ≡ column_at text.now place }
 {
-    let info = error::line_info(text, place);
-    info.column
+    error::line_info(text, place).column
 }

@@ -6,42 +6,35 @@ use native.Mathlib.Omega.{arith}
 use mathlib.Core.Path.{◌≡◌, refl, ◌∙◌}
 use mathlib.Core.Bool.{true, false}
 use mathlib.Core.List.{List, [], ◌∷◌, ◌++◌, append-nil}
-use mathlib.Core.Option.{Option, none, some}
+use mathlib.Core.Option as M
+use mathlib.Core.Option.{none, some}
+use Rattle.std.specs.Prelude.{Some, Ok, Err}
 use lib.ListN.{length}
 use Rattle.basics.specs.Basics.{letters}
 use Rattle.error.specs.Causes.{bad_precedence, bad_conflict}
 use Rattle.error.specs.Promise.{cause_number}
-use Rattle.error.specs.declared.Cause.{Cause}
+use Rattle.error.specs.declared.Stop.{Stop}
+use Rattle.lexer.specs.declared.Part.{Part}
 use Rattle.characters.specs.Places.{cut}
 use Rattle.characters.specs.Utf8.{encode_all}
 use Rattle.lexer.specs.Promise.{part_of, is_plain}
 use Rattle.lexer.specs.Tokens.{Tokens}
-use Rattle.tree.specs.Promise.{prec_of}
 use Rattle.tree.specs.Records.{Branch, nodes}
 use Rattle.tree.specs.Stored.{each, full, plain, reference_branch, token_prec_branch, token_conflict_branch, prec_item_branch, prec_value, declaration_branch}
 use Rattle.tree.specs.Syntax.{Identifier, TokenReference, TokenPrecDeclaration, TokenConflictDeclaration, PrecKind, PrecItem, PrecDeclaration}
 use Rattle.notation.specs.Parser.{Answer, read, refused, Parser, and_then, ◌>>=◌, pure, refuse, choose, here, kind, next, eat, eat_if, eat_at, expect, until, comma_or_not, parse_identifier}
 use Rattle.notation.specs.Declarations.{parse_token_reference, parse_token_precedence, parse_token_conflict, parse_prec_kind, parse_prec_item, parse_precedence}
-use Rattle.tokens.specs.Promise.{stream, start_in, end_in, arrival, LiesIn, Lies, EatsAt, Expects, Identifies}
-use Rattle.parser.specs.Storing.{Lent, lent, Stores, StoresPlain, node, flat, nodes_of}
+use Rattle.tokens.specs.Promise.{stream, start_in, end_in, LiesIn, EatsAt, Expects, Identifies}
+use Rattle.parser.specs.Storing.{Lent, Stores, node, flat, nodes_of}
 use Rattle.parser.specs.Steps.{Onward, Ready, Gives, Lists, Separates}
 use Rattle.parser.specs.Shapes.{IsToken}
-use Rattle.tokens.specs.declared.Current.{Current}
-use Rattle.tokens.specs.declared.Current.TheVariants.{Token, End}
-use Rattle.tokens.specs.declared.Arrived.{Arrived}
-use Rattle.tokens.specs.declared.Arrived.TheVariants.{At, Refused}
-use Rattle.tokens.specs.declared.Eaten.{Eaten}
-use Rattle.tokens.specs.declared.Eaten.TheVariants as E
-use Rattle.tokens.specs.declared.Taken.{Taken}
-use Rattle.tokens.specs.declared.Taken.TheVariants as G
+use Rattle.lexer.specs.declared.Token.{Token}
+use Rattle.lexer.specs.declared.Token.TheVariants.{Of, Eof}
 use Rattle.tokens.proofs.Stream.{start-of, at-of}
 use Rattle.parser.proofs.Onward.{if_true, onward_then, onward-least, next-onward, expect-onward}
 use Rattle.parser.proofs.Lists.{flat-none, flat-more, lays-then, lays-between}
-use Rattle.parser.proofs.Ready.{ready_step, ready_on, put-plain_asks, lists-small, name-got, lays-leaf, lays_parent, arrived-at, identifier_at, nodes-leaf, nodes-over}
-use Rattle.tree.specs.declared.PrecKind.{PrecKind as DeclaredPrec}
-use Rattle.declarations.specs.Promise.{prec_taken_cause, prec_taken_place, conflict_pair, PrecGot, TakesPrec, precedence_branch}
-use Rattle.declarations.specs.declared.blocks.PrecTaken.{PrecTaken}
-use Rattle.declarations.specs.declared.blocks.PrecTaken.TheVariants.{Got, Refused as Not}
+use Rattle.parser.proofs.Ready.{ready_step, ready_on, put-plain_asks, lists-small, name-got, lays-leaf, lays_parent, nodes-leaf, nodes-over}
+use Rattle.declarations.specs.Promise.{conflict_pair, PrecGot, precedence_branch}
 
 -- ------------------------------------------------------------------ a keyword, and a list in braces
 
@@ -69,50 +62,46 @@ module _ {A B : Type 0} (list : Parser ℕ (List A)) (f : List A → Parser ℕ 
       block_read h = rw (e, and_then, g, h)
 
 -- what the definition D answers at the token t is such a block
-pub record Blocked {A B : Type 0} (D : Answer ℕ B) (list : Parser ℕ (List A)) (f : List A → Parser ℕ B) (s : List ℕ) (t : Current) : Type 0 where
+pub record Blocked {A B : Type 0} (D : Answer ℕ B) (list : Parser ℕ (List A)) (f : List A → Parser ℕ B) (s : List ℕ) (t : Token) : Type 0 where
   pub is : D ≡ block_by list f (stream s t)
 
-module _ {A B : Type 0} {D : Answer ℕ B} {list : Parser ℕ (List A)} {f : List A → Parser ℕ B} {s : List ℕ} {t : Current} (b : Blocked D list f s t)
-    (r : Arrived) (h : (next (stream s t) ≡ arrival s r) × Lies s (end_in t) r) where
-  pub next-refused : {c : Cause} {p : ℕ} → r ≡ Refused c p → D ≡ refused (cause_number c) p
-  next-refused {c} {p} q = let k : (next (stream s t) ≡ arrival s (Refused c p)) × Lies s (end_in t) (Refused c p) = rw q at h in b.is ∙ block_halt list f (stream s t) k.0
+module _ {A B : Type 0} {D : Answer ℕ B} {list : Parser ℕ (List A)} {f : List A → Parser ℕ B} {s : List ℕ} {t : Token} (b : Blocked D list f s t) where
+  pub next-refused : {c p : ℕ} → next (stream s t) ≡ refused c p → D ≡ refused c p
+  next-refused k = b.is ∙ block_halt list f (stream s t) k
 
-  module _ {u : Current} (q : r ≡ At u) (e : Arrived) (o : Expects s u 0x7B e) where
-    pub brace-refused : {c : Cause} {p : ℕ} → e ≡ Refused c p → D ≡ refused (cause_number c) p
-    brace-refused {c} {p} z =
-        let k : Expects s u 0x7B (Refused c p) = rw z at o in
-        b.is ∙ block_unopened list f (stream s t) (arrived-at s r h.0 q) (k.expects "{" refl)
+  module _ {u : Token} (h : (next (stream s t) ≡ read tt (stream s u)) × LiesIn s (end_in t) u) where
+    pub brace-refused : {e : Stop} → Expects s u 0x7B (Err e) → D ≡ refused (cause_number e.cause) e.place
+    brace-refused o = b.is ∙ block_unopened list f (stream s t) h.0 (o.expects "{" refl)
 
-    module _ {v : Current} (z : e ≡ At v) where
+    module _ {v : Token} (o : Expects s u 0x7B (Ok v)) where
       brace-at : expect "{" (stream s u) ≡ read tt (stream s v)
-      brace-at = arrived-at s e (o.expects "{" refl) z
+      brace-at = o.expects "{" refl
 
       pub list_halt : {c p : ℕ} → list (stream s v) ≡ refused c p → D ≡ refused c p
-      list_halt g = b.is ∙ block_refused list f (stream s t) (arrived-at s r h.0 q) brace-at g
+      list_halt g = b.is ∙ block_refused list f (stream s t) h.0 brace-at g
 
-      -- two tokens stand before the list
       pub list_onward : IsToken t → LiesIn s 0 t → Onward s t v 2
-      list_onward i l = let w = next-onward s t u r i l h q in onward_then w (expect-onward s "{" u v e (omega arith) w.lies o z)
+      list_onward i l = let w = next-onward s t i l h in onward_then w (expect-onward s "{" u (omega arith) w.lies o)
 
       -- what storing its node asks
-      pub block_asks : {n x m z i count p : ℕ} {w : Current} {ws₀ xs₀ ws xs : List ℕ} (y : Ready s t n x) → IsToken t → (g : A → Branch)
-          → Lists (list (stream s v)) (nodes_of g) s v i (lent n ws₀ x xs₀) w (lent m ws z xs) count → p ≡ start_in t → (m + 7 < 2 ^ 64) × (p < 2 ^ 32) × (count < 2 ^ 32)
+      pub block_asks : {i count p : ℕ} {w : Token} {l m : Lent} (y : Ready s t l) → IsToken t → (g : A → Branch)
+          → Lists (list (stream s v)) (nodes_of g) s v i l w m count → p ≡ start_in t → (m.n + 7 < 2 ^ 64) × (p < 2 ^ 32) × (count < 2 ^ 32)
       block_asks y k g ls j =
           let c = lists-small g ls y.small in
           put-plain_asks y (ready_on (ready_step y (list_onward k y.lies)) ls.onward ls.lays) j (omega arith)
 
-      pub block-given : IsToken t → LiesIn s 0 t → (g : A → Branch) (d : B → Branch) (k : ℕ) {w : Current} {n m x y count p : ℕ} {ws vs xs : List ℕ} {a : Lent}
-          → (ls : Lists (list (stream s v)) (nodes_of g) s v y a w (lent n ws x xs) count) (value : B) → f ls.items (stream s w) ≡ read value (stream s w)
+      pub block-given : IsToken t → LiesIn s 0 t → (g : A → Branch) (d : B → Branch) (k : ℕ) {w : Token} {y count p : ℕ} {a m n : Lent}
+          → (ls : Lists (list (stream s v)) (nodes_of g) s v y a w m count) (value : B) → f ls.items (stream s w) ≡ read value (stream s w)
           → nodes (d value) ≡ flat (nodes_of g) ls.items ++ node k (start_in t) [] 0 0 (length ls.items) ∷ []
-          → p ≡ start_in t → StoresPlain (node k p [] 0 0 count) n ws m vs → Gives D (nodes_of d) s t a w (lent m vs x xs)
-      block-given i l g d k {x = x} {xs = xs} ls value made same j st =
+          → p ≡ start_in t → Stores (node k p [] 0 0 count ∷ []) m n → Gives D (nodes_of d) s t a w n
+      block-given i l g d k ls value made same j st =
           let o₂ = list_onward i l in
           let o₁ = o₂.ahead in
           record {
             value = value;
-            gives = b.is ∙ block_read list f (stream s t) (arrived-at s r h.0 q) brace-at ls.gives ∙ made;
+            gives = b.is ∙ block_read list f (stream s t) h.0 brace-at ls.gives ∙ made;
             onward = onward-least 1 (onward_then o₂ ls.onward) (omega arith);
-            lays = rw (same, ls.counted, ← j) (lays_parent ls.lays (st.stores x xs) (onward-least 1 o₂ (omega arith)) (omega arith) (omega arith));
+            lays = rw (same, ls.counted, ← j) (lays_parent ls.lays st (onward-least 1 o₂ (omega arith)) (omega arith) (omega arith));
           }
 
 -- ------------------------------------------------------------------ token precedences, and precedences
@@ -129,7 +118,7 @@ token_prec_by p rs = record { start = p; items = rs }
 abbrev pub prec_by : (p : ℕ) → List (PrecItem ℕ) → PrecDeclaration ℕ
 prec_by p is = record { start = p; items = is }
 
-module _ (s : List ℕ) (t : Current) where
+module _ (s : List ℕ) (t : Token) where
   pub token-precedence : Blocked (parse_token_precedence (stream s t)) references (λ rs. pure (token_prec_by (start_in t) rs)) s t
   unfolding parse_token_precedence here ◌>>=◌ and_then
   token-precedence = record { is = rw (parse_token_precedence, start-of s t) }
@@ -206,7 +195,7 @@ module _ (p : ℕ) where
   begun (read y us) = braced (expect "{" us)
   begun (refused c q) = refl
 
-pub conflict-block : (s : List ℕ) (t : Current) → Blocked (parse_token_conflict (stream s t)) conflict_pair (pair_by (start_in t)) s t
+pub conflict-block : (s : List ℕ) (t : Token) → Blocked (parse_token_conflict (stream s t)) conflict_pair (pair_by (start_in t)) s t
 unfolding parse_token_conflict here ◌>>=◌ and_then
 conflict-block s t = record { is = rw (parse_token_conflict, start-of s t) (begun (start_in t) (next (stream s t))) }
 
@@ -272,20 +261,20 @@ module _ (ts : Tokens ℕ) where
         unfolding conflict_pair ◌>>=◌ and_then pure
         pair_read h = rw (conflict_pair, e, and_then, f, g, h)
 
-module _ (s : List ℕ) {t u v : Current} {a b : Lent} (f : Gives (reference (stream s t)) (nodes_of reference_branch) s t a u b) (q : Arrived) (e : Separates s u comma_or_not 0 q) (i : q ≡ At v) where
+module _ (s : List ℕ) {t u v : Token} {a b : Lent} (f : Gives (reference (stream s t)) (nodes_of reference_branch) s t a u b) (e : Separates s u comma_or_not 0 (Ok v)) where
   pub comma-onward : Onward s u v 0
-  comma-onward = let k : Separates s u comma_or_not 0 (At v) = rw i at e in k.on
+  comma-onward = e.on
 
   -- both are stored, and the brace behind them
-  pub pair_given : {w z : Current} {c : Lent} → Gives (reference (stream s v)) (nodes_of reference_branch) s v b w c → (r : Arrived) → Expects s w 0x7D r → r ≡ At z
+  pub pair_given : {w z : Token} {c : Lent} → Gives (reference (stream s v)) (nodes_of reference_branch) s v b w c → Expects s w 0x7D (Ok z)
       → Lists (conflict_pair (stream s t)) (nodes_of reference_branch) s t 2 a z c 2
-  pair_given {w} {z} g r h j =
+  pair_given {w} {z} g h =
       let o₁ = comma-onward.ahead in
-      let o = expect-onward s "}" w z r (omega arith) g.onward.lies h j in
+      let o = expect-onward s "}" w (omega arith) g.onward.lies h in
       let o₂ = o.ahead in
       record {
         items = f.value ∷ g.value ∷ [];
-        gives = pair_read (stream s t) f.gives (arrived-at s q e.takes i) g.gives (arrived-at s r (h.expects "}" refl) j);
+        gives = pair_read (stream s t) f.gives e.takes g.gives (h.expects "}" refl);
         counted = refl;
         onward = onward-least 2 (onward_then f.onward (onward_then comma-onward (onward_then g.onward o))) (omega arith);
         lays = rw (flat-more (nodes_of reference_branch) f.value (g.value ∷ []), flat-more (nodes_of reference_branch) g.value [], flat-none (nodes_of reference_branch), append-nil)
@@ -304,33 +293,21 @@ conflict-made p a b ts e = rw e
 -- ------------------------------------------------------------------ `@` and a word
 
 module _ (s : List ℕ) (w : Quoted) where
-  word-token : (t : Current) {us : Tokens ℕ} → eat_at w (stream s t) ≡ read true us → IsToken t
+  word-token : (t : Token) {us : Tokens ℕ} → eat_at w (stream s t) ≡ read true us → IsToken t
   unfolding eat_at eat_if kind ◌>>=◌ and_then pure
-  word-token (Token k start end) e = tt
-  word-token (End p) {us} e = let h = rw (at-of s (End p)) at e in absurd (let z : ◌≡◌ {A = ℕ} 0 1 = cc in omega arith)
+  word-token (Of k start end) e = tt
+  word-token (Eof p) {us} e = let h = rw (at-of s (Eof p)) at e in absurd (let z : ◌≡◌ {A = ℕ} 0 1 = cc in omega arith)
 
-  word_next : (t : Current) {us : Tokens ℕ} → eat_at w (stream s t) ≡ read true us → next (stream s t) ≡ read tt us
+  word_next : (t : Token) {us : Tokens ℕ} → eat_at w (stream s t) ≡ read true us → next (stream s t) ≡ read tt us
   unfolding eat_at kind ◌>>=◌ and_then
   word_next t {us} e = (if_true _ (stream s t) us e).1
 
-  module _ (t : Current) (p : is_plain (letters w) ≡ true) (r : Eaten) (h : EatsAt s t (letters w) r) where
-    pub word_yes : {u : Current} → LiesIn s 0 t → r ≡ E.Yes u → (eat_at w (stream s t) ≡ read true (stream s u)) × Onward s t u 0
-    word_yes {u} l q =
-        let k : EatsAt s t (letters w) (E.Yes u) = rw q at h in
-        let e = k.eats w refl p in
-        (e, onward-least 0 (next-onward s t u (At u) (word-token t e) l (word_next t e, k.lies) refl) (omega arith))
-
-    pub word_no : r ≡ E.No → eat_at w (stream s t) ≡ read false (stream s t)
-    word_no q = let k : EatsAt s t (letters w) E.No = rw q at h in k.eats w refl p
-
-    pub word_not : {c : Cause} {o : ℕ} → r ≡ E.Refused c o → eat_at w (stream s t) ≡ refused (cause_number c) o
-    word_not {c} {o} q = let k : EatsAt s t (letters w) (E.Refused c o) = rw q at h in k.eats w refl p
+  pub word_yes : (t : Token) {u : Token} → is_plain (letters w) ≡ true → LiesIn s 0 t → EatsAt s t (letters w) (Ok (Some u)) → (eat_at w (stream s t) ≡ read true (stream s u)) × Onward s t u 0
+  word_yes t p l k =
+      let e = k.eats w refl p in
+      (e, onward-least 0 (next-onward s t (word-token t e) l (word_next t e, k.lies)) (omega arith))
 
 -- ------------------------------------------------------------------ the kind of a precedence
-
--- a refusal is the one with the cause and the place that it says
-pub prec_told : {c d : Cause} {p q : ℕ} {r : PrecTaken} → r ≡ Not c p → d ≡ prec_taken_cause r → q ≡ prec_taken_place r → r ≡ Not d q
-prec_told e f g = rw (f, g, e)
 
 module _ (ts : Tokens ℕ) where
   pub left_not : {c p : ℕ} → eat_at "left" ts ≡ refused c p → parse_prec_kind ts ≡ refused c p
@@ -363,17 +340,9 @@ module _ (ts : Tokens ℕ) where
       unfolding parse_prec_kind ◌>>=◌ and_then choose pure
       kind-none e = rw (parse_prec_kind, l, and_then, r, e)
 
-module _ {s : List ℕ} {t u : Current} {k : Option PrecKind} where
+module _ {s : List ℕ} {t u : Token} {k : M.Option PrecKind} where
   pub prec_got : parse_prec_kind (stream s t) ≡ read k (stream s u) → Onward s t u 0 → PrecGot s t k u
   prec_got e o = record { gives = e; onward = o }
-
--- by its variant
-module _ (s : List ℕ) (t : Current) (r : PrecTaken) (h : TakesPrec s t r) where
-  pub prec_taken : {k : DeclaredPrec} {u : Current} → r ≡ Got k u → PrecGot s t (prec_of k) u
-  prec_taken q = rw q at h
-
-  pub prec_taken_not : {c : Cause} {p : ℕ} → r ≡ Not c p → parse_prec_kind (stream s t) ≡ refused (cause_number c) p
-  prec_taken_not q = rw q at h
 
 -- ------------------------------------------------------------------ an item
 
@@ -387,20 +356,20 @@ module _ (ts : Tokens ℕ) where
     unfolding parse_prec_item ◌>>=◌ and_then
     item_kindless f = rw (parse_prec_item, e, and_then, f)
 
-    pub item-read : {k : Option PrecKind} {vs : Tokens ℕ} → parse_prec_kind us ≡ read k vs → parse_prec_item ts ≡ read (record { id = n; kind = k }) vs
+    pub item-read : {k : M.Option PrecKind} {vs : Tokens ℕ} → parse_prec_kind us ≡ read k vs → parse_prec_item ts ≡ read (record { id = n; kind = k }) vs
     unfolding parse_prec_item ◌>>=◌ and_then pure
     item-read f = rw (parse_prec_item, e, and_then, f)
 
-pub item-given : (s : List ℕ) (t : Current) {u v : Current} {a e p m : ℕ} {k : Option PrecKind} {b c : Lent} → LiesIn s 0 t → (r : Taken) → Identifies s t r → r ≡ G.Got a e u
-    → PrecGot s u k v → p ≡ start_in t → m ≡ prec_value k → Stores (node 21 p (cut s a e) m 0 0 ∷ []) b c → Gives (parse_prec_item (stream s t)) (nodes_of prec_item_branch) s t b v c
-item-given s t {u} {v} {a} {e} {k = k} l r i q g d j st =
-    let m = name-got s r l q i in
+pub item-given : (s : List ℕ) (t : Token) {u v : Token} {a : Part} {p m : ℕ} {k : M.Option PrecKind} {b c : Lent} → LiesIn s 0 t → Identifies s t (Ok (a, u))
+    → PrecGot s u k v → p ≡ start_in t → m ≡ prec_value k → Stores (node 21 p (cut s a.from a.to) m 0 0 ∷ []) b c → Gives (parse_prec_item (stream s t)) (nodes_of prec_item_branch) s t b v c
+item-given s t {a = a} {k = k} l i g d j st =
+    let m = name-got s l i in
     let o = onward_then m.1.onward g.onward in
     let o₁ = g.onward.ahead in
     let o₂ = m.1.past in
     record {
-      value = record { id = record { start = start_in t; name = part_of s a e }; kind = k };
-      gives = item-read (stream s t) (identifier_at s _ r i q) g.gives;
+      value = record { id = record { start = start_in t; name = part_of s a }; kind = k };
+      gives = item-read (stream s t) i.takes g.gives;
       onward = o;
-      lays = rw (nodes-leaf (full 21 (start_in t) (part_of s a e) (prec_value k)), m.0.part.bytes, ← d, ← j) (lays-leaf st o (omega arith));
+      lays = rw (nodes-leaf (full 21 (start_in t) (part_of s a) (prec_value k)), m.0.part.bytes, ← d, ← j) (lays-leaf st o (omega arith));
     }

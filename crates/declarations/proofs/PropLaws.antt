@@ -7,13 +7,13 @@ use mathlib.Core.Bool.{Bool, true, false}
 use mathlib.Core.List.{List, [], ◌∷◌, ◌++◌}
 use lib.ListN.{length, length-append}
 use Rattle.basics.specs.Basics.{letters, every}
-use Rattle.error.specs.declared.Cause.{Cause}
-use Rattle.error.specs.Promise.{cause_number}
+use Rattle.std.specs.Prelude.{Result, Ok, Err}
+use Rattle.error.specs.declared.Stop.{Stop}
+use Rattle.lexer.specs.declared.Part.{Part}
 use Rattle.characters.specs.Utf8.{encode_all}
 use Rattle.characters.specs.Places.{cut}
 use Rattle.lexer.specs.Tokens.{Tokens}
-use Rattle.lexer.specs.Promise as L
-use Rattle.lexer.specs.Promise.{part_of, is_plain}
+use Rattle.lexer.specs.Promise.{part_of, is_plain, IsPart}
 use Rattle.lexer.specs.Escapes.{decode_string}
 use Rattle.tree.specs.Syntax.{Identifier, ExternalPropDeclaration}
 use Rattle.tree.specs.Records.{nodes, count, texts_of}
@@ -21,13 +21,11 @@ use Rattle.tree.specs.Stored.{external_prop_branch}
 use Rattle.notation.specs.Parser.{Answer, read, refused, and_then, ◌>>=◌, pure, choose, eat_name, parse_identifier}
 use Rattle.notation.specs.Declarations.{parse_source, parse_external_prop}
 use Rattle.tokens.specs.Promise.{stream, start_in, LiesIn, Identifies}
-use Rattle.parser.specs.Storing.{Lent, lent, Stores, node, nodes_of}
+use Rattle.parser.specs.Storing.{Lent, Stores, node, nodes_of}
 use Rattle.parser.specs.Steps.{Onward, Ready, Gives}
-use Rattle.tokens.specs.declared.Current.{Current}
-use Rattle.tokens.specs.declared.Taken.{Taken}
-use Rattle.tokens.specs.declared.Taken.TheVariants as G
+use Rattle.lexer.specs.declared.Token.{Token}
 use Rattle.parser.proofs.Onward.{onward-here, onward_then, onward-least}
-use Rattle.parser.proofs.Ready.{Short, part-short, cut-length, name-got, taken_at, identifier_at, taken_not}
+use Rattle.parser.proofs.Ready.{Short, part-short, cut-length, name-got}
 use Rattle.parser.proofs.Stored.{stores-then}
 use Rattle.declarations.specs.Sources.{GotSource, as_name, GotId, TakesId}
 use Rattle.declarations.proofs.SourceLaws.{from-small}
@@ -38,42 +36,35 @@ as_plain = refl
 
 -- ------------------------------------------------------------------ the name
 
-module _ (s : List ℕ) (t : Current) (a e : ℕ) where
-  pub as_refused : {c p : ℕ} → eat_name "as" (stream s t) ≡ refused c p → as_name (part_of s a e) (stream s t) ≡ refused c p
+module _ (s : List ℕ) (t : Token) (a : Part) where
+  pub as_refused : {c p : ℕ} → eat_name "as" (stream s t) ≡ refused c p → as_name (part_of s a) (stream s t) ≡ refused c p
   unfolding as_name ◌>>=◌ and_then
   as_refused h = rw (as_name, h)
 
-  pub as_same : L.Part s a e → LiesIn s 0 t → eat_name "as" (stream s t) ≡ read false (stream s t) → GotId s t a e a e t
+  pub as_same : IsPart s a → LiesIn s 0 t → eat_name "as" (stream s t) ≡ read false (stream s t) → GotId s t a a t
   unfolding as_name choose pure ◌>>=◌ and_then
   as_same p l h = record { gives = rw (as_name, h); onward = onward-here s t l; part = p; room = omega arith }
 
-  as_other : {us : Tokens ℕ} → eat_name "as" (stream s t) ≡ read true us → as_name (part_of s a e) (stream s t) ≡ and_then (parse_identifier us) (λ i. pure i.name)
+  as_other : {us : Tokens ℕ} → eat_name "as" (stream s t) ≡ read true us → as_name (part_of s a) (stream s t) ≡ and_then (parse_identifier us) (λ i. pure i.name)
   unfolding as_name choose ◌>>=◌ and_then
   as_other h = rw (as_name, h)
 
-  pub as_taken : L.Part s a e → (u : Current) → eat_name "as" (stream s t) ≡ read true (stream s u) → Onward s t u 1 → (r : Taken) → Identifies s u r → TakesId s t a e r
+  pub as_taken : IsPart s a → {u : Token} → eat_name "as" (stream s t) ≡ read true (stream s u) → Onward s t u 1 → (r : Result (Part × Token) Stop) → Identifies s u r → TakesId s t a r
   unfolding and_then pure
-  as_taken q u h o (G.Got b f v) i =
-      let m = name-got s (G.Got b f v) o.lies refl i in
+  as_taken q h o (Ok (b, v)) i =
+      let m = name-got s o.lies i in
       let l = cut-length s m.0.part in
       let w = m.1.past in
       let x = o.ahead in
       let y = m.0.part.forth in
       let z = q.forth in
       record {
-        gives = as_other h ∙ rw (taken_at (λ n. record { start = start_in u; name = n }) s (G.Got b f v) i.takes refl);
+        gives = as_other h ∙ rw i.takes;
         onward = onward-least 0 (onward_then o m.1.onward) (omega arith);
         part = m.0.part;
         room = omega arith;
       }
-  as_taken q u h o (G.Refused c p) i = as_other h ∙ rw (taken_not (λ n. record { start = start_in u; name = n }) s (G.Refused c p) i.takes refl)
-
-module _ (s : List ℕ) (t : Current) (a e : ℕ) (r : Taken) (h : TakesId s t a e r) where
-  pub as_at : {b f : ℕ} {u : Current} → r ≡ G.Got b f u → GotId s t a e b f u
-  as_at q = rw q at h
-
-  pub as_not : {c : Cause} {p : ℕ} → r ≡ G.Refused c p → as_name (part_of s a e) (stream s t) ≡ refused (cause_number c) p
-  as_not q = rw q at h
+  as_taken q h o (Err d) i = as_other h ∙ rw i.takes
 
 -- ------------------------------------------------------------------ the whole
 
@@ -130,12 +121,12 @@ three-texts : (x y z : List ℕ) (p q : ℕ) → length (texts_of (node 26 p x 0
 unfolding texts_of
 three-texts x y z p q = let l = length-append x (y ++ (z ++ [])) in let m = length-append y (z ++ []) in let n = length-append z [] in omega arith
 
-module _ {s : List ℕ} {t u v w : Current} {a e b f c g start p : ℕ} (r : Taken) (l : LiesIn s 0 t) (i : Identifies s t r) (q : r ≡ G.Got a e u) (h : GotId s u a e b f v) (k : GotSource s v c g w) where
-  pub prop-given : {m o d z : Lent} → p ≡ start_in t → length (encode_all (decode_string (part_of s c g))) + c ≤ g → Stores (node 26 p (cut s a e) 0 0 0 ∷ []) m o
-      → Stores (node 15 0 (encode_all (decode_string (part_of s c g))) 0 0 0 ∷ []) o d → Stores (node 25 start (cut s b f) 0 0 2 ∷ []) d z
+module _ {s : List ℕ} {t u v w : Token} {a b c : Part} {start p : ℕ} (l : LiesIn s 0 t) (i : Identifies s t (Ok (a, u))) (h : GotId s u a b v) (k : GotSource s v c w) where
+  pub prop-given : {m o d z : Lent} → p ≡ start_in t → length (encode_all (decode_string (part_of s c))) + c.from ≤ c.to → Stores (node 26 p (cut s a.from a.to) 0 0 0 ∷ []) m o
+      → Stores (node 15 0 (encode_all (decode_string (part_of s c))) 0 0 0 ∷ []) o d → Stores (node 25 start (cut s b.from b.to) 0 0 2 ∷ []) d z
       → Gives (parse_external_prop start (stream s t)) (nodes_of external_prop_branch) s t m w z
   prop-given st few x y z =
-      let d = name-got s r l q i in
+      let d = name-got s l i in
       let bytes = d.0.part.bytes in
       let other = h.part.bytes in
       let cl = cut-length s d.0.part in
@@ -148,11 +139,11 @@ module _ {s : List ℕ} {t u v w : Current} {a e b f c g start p : ℕ} (r : Tak
       let kf = d.0.part.forth in
       let bt = k.between in
       let on = k.onward.ahead in
-      let n = nodes-prop (record { start = start; id = part_of s b f; external_id = record { start = start_in t; name = part_of s a e }; source = decode_string (part_of s c g) }) in
-      let three = three-texts (cut s a e) (encode_all (decode_string (part_of s c g))) (cut s b f) (start_in t) start in
+      let n = nodes-prop (record { start = start; id = part_of s b; external_id = record { start = start_in t; name = part_of s a }; source = decode_string (part_of s c) }) in
+      let three = three-texts (cut s a.from a.to) (encode_all (decode_string (part_of s c))) (cut s b.from b.to) (start_in t) start in
       record {
-        value = record { start = start; id = part_of s b f; external_id = record { start = start_in t; name = part_of s a e }; source = decode_string (part_of s c g) };
-        gives = prop-read start (stream s t) (identifier_at s _ r i q) h.gives k.gives;
+        value = record { start = start; id = part_of s b; external_id = record { start = start_in t; name = part_of s a }; source = decode_string (part_of s c) };
+        gives = prop-read start (stream s t) i.takes h.gives k.gives;
         onward = onward-least 1 (onward_then (onward_then d.1.onward h.onward) k.onward) (omega arith);
         lays = rw (n, bytes, other) (record { stores = stores-then (stores-then (rw st at x) y) z; bound = omega arith; space = omega arith });
       }
@@ -162,9 +153,8 @@ unfolding texts_of
 single-text k p x = let l = length-append x [] in omega arith
 
 -- behind the external name's node
-pub name-next : {s : List ℕ} {t : Current} {n x m y k p : ℕ} {ws ts vs us text : List ℕ} → Ready s t n x → Short s text → Stores (node k p text 0 0 0 ∷ []) (lent n ws x ts) (lent m vs y us)
-    → (m ≤ 0x43000000) × (y ≤ 0x43000000)
-name-next {k = k} {p} {text = text} r h st =
+pub name-next : {s : List ℕ} {t : Token} {a b : Lent} {k p : ℕ} {text : List ℕ} → Ready s t a → Short s text → Stores (node k p text 0 0 0 ∷ []) a b → (b.n ≤ 0x43000000) × (b.x ≤ 0x43000000)
+name-next {k = k} {p} {text} r h st =
     let w = from-small r in
     let a = w.0 in
     let b = w.1 in
@@ -176,8 +166,8 @@ name-next {k = k} {p} {text = text} r h st =
     (omega arith, omega arith)
 
 -- and the source's
-pub prop-last : {s : List ℕ} {t : Current} {n x m y k p b f o z : ℕ} {ws ts vs us qs rs text v : List ℕ} → Ready s t n x → Short s text → Stores (node k p text 0 0 0 ∷ []) (lent n ws x ts) (lent m vs y us)
-    → L.Part s b f → Stores (node 15 0 v 0 0 0 ∷ []) (lent m vs y us) (lent o qs z rs) → z ≤ y + length (cut s b f) → (o ≤ 0x50000000) × (z ≤ 0x50000000)
+pub prop-last : {s : List ℕ} {t : Token} {a b c : Lent} {k p : ℕ} {q : Part} {text v : List ℕ} → Ready s t a → Short s text → Stores (node k p text 0 0 0 ∷ []) a b
+    → IsPart s q → Stores (node 15 0 v 0 0 0 ∷ []) b c → c.x ≤ b.x + length (cut s q.from q.to) → (c.n ≤ 0x50000000) × (c.x ≤ 0x50000000)
 prop-last {s} r h st q su i =
     let w = name-next r h st in
     let a = w.0 in

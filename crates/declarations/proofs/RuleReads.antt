@@ -2,9 +2,13 @@
 -- Assumes nothing.
 use Prim.Native.Nat.{ℕ, ◌+◌, ◌≤◌}
 use native.Mathlib.Omega.{arith}
+use mathlib.Core.Logic.{◌⊎◌, inl, inr}
 use mathlib.Core.Path.{◌≡◌, refl, ◌∙◌}
 use mathlib.Core.List.{List, [], ◌∷◌, ◌++◌, append_assoc, append-nil}
 use mathlib.Core.Option.{none}
+use Rattle.std.specs.Prelude.{Some, Result, Ok, Err}
+use Rattle.error.specs.declared.Stop.{Stop}
+use Rattle.lexer.specs.declared.Part.{Part}
 use lib.ListN.{length, length-append}
 use Rattle.characters.specs.Utf8.{codes, encode_all}
 use Rattle.characters.specs.Places.{cut}
@@ -18,25 +22,17 @@ use Rattle.notation.specs.Limits.{levels}
 use Rattle.notation.specs.Parser.{read, refused, Parser, and_then, ◌>>=◌, pure, refuse, here, next, eat, expect, until, parse_identifier}
 use Rattle.notation.specs.Expressions.{parse_props, reference_of, parse_braced_expression, parse_expression_inner, choice_at}
 use Rattle.notation.specs.Declarations.{parse_rule, block, reference_by, parse_token_reference, parse_literal, parse_named_node}
-use Rattle.tokens.specs.Promise.{stream, start_in, end_in, string_of, arrival, LiesIn, Lies, Expects, Identifies}
-use Rattle.parser.specs.Storing.{Lent, lent, Stores, node, flat, nodes_of}
+use Rattle.tokens.specs.Promise.{stream, start_in, end_in, string_of, LiesIn, Expects, Identifies}
+use Rattle.parser.specs.Storing.{Lent, Stores, node, flat, nodes_of}
 use Rattle.parser.specs.Steps.{Onward, Ready, Gives, Lists, ParsesList}
 use Rattle.parser.specs.Shapes.{Yields, YieldsBraced, Head, parse_head, Heads}
-use Rattle.tokens.specs.declared.Current.{Current}
-use Rattle.tokens.specs.declared.Arrived.{Arrived}
-use Rattle.tokens.specs.declared.Arrived.TheVariants.{At}
-use Rattle.tokens.specs.declared.Taken.{Taken}
-use Rattle.tokens.specs.declared.Taken.TheVariants as G
-use Rattle.tokens.specs.declared.Part.TheVariants.{From}
-use Rattle.parser.specs.declared.props.Listed.{Listed}
-use Rattle.parser.specs.declared.props.Listed.TheVariants as L
+use Rattle.lexer.specs.declared.Token.{Token}
 use Rattle.parser.specs.declared.parts.Shape.{Shape}
 use Rattle.parser.specs.declared.parts.Shape.TheVariants.{Name, Literal, Repeat, Blank, Other}
 use Rattle.tokens.proofs.Stream.{start-of}
 use Rattle.parser.proofs.Onward.{placed_in, onward_then, onward-least, expect-onward}
 use Rattle.parser.proofs.Lists.{lays-then, lays-between}
-use Rattle.parser.proofs.Ready.{name-got, next-got, got-less, string-in, stored-text, lays_parent, arrived-at, identifier_at, nodes-each, count-each, nodes-over, flat-length}
-use Rattle.parser.proofs.Took.{expect-at}
+use Rattle.parser.proofs.Ready.{name-got, next-got, got-less, string-in, stored-text, lays_parent, nodes-each, count-each, nodes-over, flat-length}
 use Rattle.parser.proofs.InnerRules.{rule-is}
 
 -- the code's levels are the definition's
@@ -87,7 +83,7 @@ nodes-rule r ps ns e =
     )
 
 -- a head has few props and params
-pub head_small : {s : List ℕ} {u v : Current} {b c : Lent} {k m : ℕ} → Heads s u b v c k m → length s ≤ 0x200000 → k + m ≤ 0x400000
+pub head_small : {s : List ℕ} {u v : Token} {b c : Lent} {k m : ℕ} → Heads s u b v c k m → length s ≤ 0x200000 → k + m ≤ 0x400000
 head_small {s} {v = v} h i =
     let p = flat-length prop_branch h.listed in
     let n = flat-length (name_branch 4) h.names in
@@ -98,16 +94,16 @@ head_small {s} {v = v} h i =
     let o = placed_in s v h.onward.lies in
     omega arith
 
-pub rule-given : (kind : ℕ) (s : List ℕ) (t : Current) {u v w : Current} {a e p k m q : ℕ} {shape : Shape} {b c d f : Lent} → LiesIn s 0 t → (r : Taken) → Identifies s t r → r ≡ G.Got a e u
-    → Heads s u b v c k m → YieldsBraced (parse_braced_expression (choice_at 64) (stream s v)) s v c w d q shape → p ≡ start_in t → Stores (node kind p (cut s a e) 0 0 (k + m + 1) ∷ []) d f
-    → Gives (parse_rule (stream s t)) (nodes_of (rule_branch kind)) s t b w f
-rule-given kind s t {a = a} {e} l r i z h g o st =
-    let n = name-got s r l z i in
+pub rule-given : (kind : ℕ) (s : List ℕ) (t : Token) {u v w : Token} {a : Part} {p k m q : ℕ} {shape : Shape} {b c d f : Lent} → LiesIn s 0 t → Identifies s t (Ok (a, u))
+    → Heads s u b v c k m → YieldsBraced (parse_braced_expression (choice_at 64) (stream s v)) s v c w d q shape → p ≡ start_in t
+    → Stores (node kind p (cut s a.from a.to) 0 0 (k + m + 1) ∷ []) d f → Gives (parse_rule (stream s t)) (nodes_of (rule_branch kind)) s t b w f
+rule-given kind s t {a = a} l i h g o st =
+    let n = name-got s l i in
     record {
-      value = record { id = record { start = start_in t; name = part_of s a e }; props = h.listed; params = h.names; expression = g.yields.tree };
-      gives = rule-read (stream s t) (identifier_at s _ r i z) h.gives g.yields.gives;
+      value = record { id = record { start = start_in t; name = part_of s a }; props = h.listed; params = h.names; expression = g.yields.tree };
+      gives = rule-read (stream s t) i.takes h.gives g.yields.gives;
       onward = onward-least 1 (onward_then n.1.onward (onward_then h.onward g.yields.onward)) (omega arith);
-      lays = rw (nodes-rule (named kind (start_in t) (part_of s a e)) h.listed h.names g.yields.tree, n.0.part.bytes, h.counted, h.numbered, ← o)
+      lays = rw (nodes-rule (named kind (start_in t) (part_of s a)) h.listed h.names g.yields.tree, n.0.part.bytes, h.counted, h.numbered, ← o)
           (lays_parent (lays-then h.lays g.yields.lays) st n.1.onward n.1.past (omega arith));
     }
 
@@ -122,38 +118,42 @@ module _ (cause : ℕ) where
   unfolding parse_token_reference ◌>>=◌ and_then
   reference-by ts e = rw (parse_token_reference, levels-are, e)
 
-  module _ {s : List ℕ} {t u : Current} {a b : Lent} {p : ℕ} where
+  module _ {s : List ℕ} {t u : Token} {a b : Lent} {p : ℕ} where
     -- what is read is a reference
     refers : {shape : Shape} (r : TokenReference ℕ) (g : Yields (parse_expression_inner (choice_at 64) (stream s t)) s t 1 0 a u b p shape) → reference_by cause (start_of g.tree) (reference_of g.tree) (stream s u) ≡ read r (stream s u)
         → nodes (expression_branch g.tree) ≡ nodes (reference_branch r) → Gives (parse_token_reference cause (stream s t)) (nodes_of reference_branch) s t a u b
     refers r g e n = record { value = r; gives = reference-by (stream s t) g.gives ∙ e; onward = g.onward; lays = rw (← n) g.lays }
 
-    pub reference-name : {shape : Shape} → Yields (parse_expression_inner (choice_at 64) (stream s t)) s t 1 0 a u b p shape → shape ≡ Name → Gives (parse_token_reference cause (stream s t)) (nodes_of reference_branch) s t a u b
+    reference-name : {shape : Shape} → Yields (parse_expression_inner (choice_at 64) (stream s t)) s t 1 0 a u b p shape → shape ≡ Name → Gives (parse_token_reference cause (stream s t)) (nodes_of reference_branch) s t a u b
     unfolding reference_by reference_of pure
     reference-name g q =
         let y : Yields (parse_expression_inner (choice_at 64) (stream s t)) s t 1 0 a u b p Name = rw q at g in
         let i = y.shown.refers in
         refers (TokenReference.name p i.text i.arguments) y (rw i.is) (rw i.is)
 
-    pub reference-literal : {shape : Shape} {j k : ℕ} → Yields (parse_expression_inner (choice_at 64) (stream s t)) s t 1 0 a u b p shape → shape ≡ Literal j k → Gives (parse_token_reference cause (stream s t)) (nodes_of reference_branch) s t a u b
+    reference-literal : {shape : Shape} {j : Part} → Yields (parse_expression_inner (choice_at 64) (stream s t)) s t 1 0 a u b p shape → shape ≡ Literal j → Gives (parse_token_reference cause (stream s t)) (nodes_of reference_branch) s t a u b
     unfolding reference_by reference_of pure
-    reference-literal {j = j} {k} g q =
-        let y : Yields (parse_expression_inner (choice_at 64) (stream s t)) s t 1 0 a u b p (Literal j k) = rw q at g in
+    reference-literal {j = j} g q =
+        let y : Yields (parse_expression_inner (choice_at 64) (stream s t)) s t 1 0 a u b p (Literal j) = rw q at g in
         let i = y.shown.refers in
-        refers (TokenReference.literal p (decode_string (part_of s j k))) y (rw i.is) (rw i.is)
+        refers (TokenReference.literal p (decode_string (part_of s j))) y (rw i.is) (rw i.is)
 
     reference-none : {shape : Shape} (g : Yields (parse_expression_inner (choice_at 64) (stream s t)) s t 1 0 a u b p shape) → reference_of g.tree ≡ none → parse_token_reference cause (stream s t) ≡ refused cause p
     unfolding reference_by refuse
     reference-none g e = reference-by (stream s t) g.gives ∙ rw (e, g.shown.starts)
 
-    pub reference-repeat : {shape : Shape} {k : ℕ} → Yields (parse_expression_inner (choice_at 64) (stream s t)) s t 1 0 a u b p shape → shape ≡ Repeat k → parse_token_reference cause (stream s t) ≡ refused cause p
-    reference-repeat {k = k} g q = let y : Yields (parse_expression_inner (choice_at 64) (stream s t)) s t 1 0 a u b p (Repeat k) = rw q at g in reference-none y y.shown.refers
+    -- a name or a literal
+    pub reference-held : {shape : Shape} → Yields (parse_expression_inner (choice_at 64) (stream s t)) s t 1 0 a u b p shape → (shape ≡ Name) ⊎ ((j : Part) × (shape ≡ Literal j)) → Gives (parse_token_reference cause (stream s t)) (nodes_of reference_branch) s t a u b
+    reference-held g (inl q) = reference-name g q
+    reference-held g (inr (j, q)) = reference-literal g q
 
-    pub reference-blank : {shape : Shape} → Yields (parse_expression_inner (choice_at 64) (stream s t)) s t 1 0 a u b p shape → shape ≡ Blank → parse_token_reference cause (stream s t) ≡ refused cause p
-    reference-blank g q = let y : Yields (parse_expression_inner (choice_at 64) (stream s t)) s t 1 0 a u b p Blank = rw q at g in reference-none y y.shown.refers
-
-    pub reference-other : {shape : Shape} → Yields (parse_expression_inner (choice_at 64) (stream s t)) s t 1 0 a u b p shape → shape ≡ Other → parse_token_reference cause (stream s t) ≡ refused cause p
-    reference-other g q = let y : Yields (parse_expression_inner (choice_at 64) (stream s t)) s t 1 0 a u b p Other = rw q at g in reference-none y y.shown.refers
+    -- another shape is none
+    pub reference-rest : {shape : Shape} → Yields (parse_expression_inner (choice_at 64) (stream s t)) s t 1 0 a u b p shape → (shape ≡ Name → ⊥) → ((j : Part) → shape ≡ Literal j → ⊥) → parse_token_reference cause (stream s t) ≡ refused cause p
+    reference-rest {shape = Name} g n l = absurd (n refl)
+    reference-rest {shape = Literal j} g n l = absurd (l j refl)
+    reference-rest {shape = Repeat k} g n l = reference-none g g.shown.refers
+    reference-rest {shape = Blank} g n l = reference-none g g.shown.refers
+    reference-rest {shape = Other} g n l = reference-none g g.shown.refers
 
 -- ------------------------------------------------------------------ blocks
 
@@ -163,20 +163,20 @@ module _ {A : Type 0} (between : Parser ℕ (Unit {0})) (item : List A → Parse
   block_refused ts e = rw e
 
   -- what was read behind the brace
-  pub block_list : (g : A → List Node) (s : List ℕ) (t : Current) {u : Current} → LiesIn s 0 t → (r : Arrived) → Expects s t 0x7B r → r ≡ At u → (a : Lent) (ws ts : List ℕ) (f : Listed)
-      → ParsesList (until (eat "}") between item (stream s u)) g s u 1 a ws ts f → ParsesList (block between item (stream s t)) g s t 2 a ws ts f
+  pub block_list : (g : A → List Node) (s : List ℕ) (t : Token) {u : Token} → LiesIn s 0 t → Expects s t 0x7B (Ok u) → (a b : Lent) (f : Result (Token × ℕ) Stop)
+      → ParsesList (until (eat "}") between item (stream s u)) g s u 1 a b f → ParsesList (block between item (stream s t)) g s t 2 a b f
   unfolding ◌>>=◌ and_then
-  block_list g s t {u} l r h q a ws ts (L.Done v n x count) f =
-      let o = expect-onward s "{" t u r (omega arith) l h q in
+  block_list g s t l h a b (Ok (v, count)) f =
+      let o = expect-onward s "{" t (omega arith) l h in
       let w = o.ahead in
       record {
         items = f.items;
-        gives = rw (expect-at s "{" t r h q) f.gives;
+        gives = rw (h.expects "{" refl) f.gives;
         counted = f.counted;
         onward = onward_then o f.onward;
         lays = lays-between 0 f.lays (omega arith) (omega arith) (omega arith);
       }
-  block_list g s t {u} l r h q a ws ts (L.Refused c e) f = rw (expect-at s "{" t r h q) f
+  block_list g s t l h a b (Err e) f = rw (h.expects "{" refl) f
 
 -- ------------------------------------------------------------------ names with props
 
@@ -194,21 +194,21 @@ module _ (ts : Tokens ℕ) where
     unfolding parse_named_node ◌>>=◌ and_then pure
     node-read f = rw (parse_named_node, e, and_then, f)
 
-pub node-given : (s : List ℕ) (t : Current) {u v : Current} {a e p k : ℕ} {b c d : Lent} → LiesIn s 0 t → (r : Taken) → Identifies s t r → r ≡ G.Got a e u
-    → Lists (parse_props (stream s u)) (nodes_of prop_branch) s u 0 b v c k → p ≡ start_in t → Stores (node 13 p (cut s a e) 0 0 k ∷ []) c d
+pub node-given : (s : List ℕ) (t : Token) {u v : Token} {a : Part} {p k : ℕ} {b c d : Lent} → LiesIn s 0 t → Identifies s t (Ok (a, u))
+    → Lists (parse_props (stream s u)) (nodes_of prop_branch) s u 0 b v c k → p ≡ start_in t → Stores (node 13 p (cut s a.from a.to) 0 0 k ∷ []) c d
     → Gives (parse_named_node (stream s t)) (nodes_of named_node_branch) s t b v d
-node-given s t {a = a} {e} l r i z g o st =
-    let n = name-got s r l z i in
+node-given s t {a = a} l i g o st =
+    let n = name-got s l i in
     record {
-      value = record { id = record { start = start_in t; name = part_of s a e }; props = g.items };
-      gives = node-read (stream s t) (identifier_at s _ r i z) g.gives;
+      value = record { id = record { start = start_in t; name = part_of s a }; props = g.items };
+      gives = node-read (stream s t) i.takes g.gives;
       onward = onward-least 1 (onward_then n.1.onward g.onward) (omega arith);
-      lays = rw (nodes-over prop_branch (named 13 (start_in t) (part_of s a e)) g.items, n.0.part.bytes, g.counted, ← o) (lays_parent g.lays st n.1.onward n.1.past (omega arith));
+      lays = rw (nodes-over prop_branch (named 13 (start_in t) (part_of s a)) g.items, n.0.part.bytes, g.counted, ← o) (lays_parent g.lays st n.1.onward n.1.past (omega arith));
     }
 
 -- ------------------------------------------------------------------ literals with props
 
-module _ (text : List ℕ) (s : List ℕ) (t : Current) where
+module _ (text : List ℕ) (s : List ℕ) (t : Token) where
   pub literal-next : {c p : ℕ} → next (stream s t) ≡ refused c p → parse_literal text (stream s t) ≡ refused c p
   unfolding parse_literal here ◌>>=◌ and_then
   literal-next e = rw (parse_literal, e)
@@ -222,18 +222,18 @@ module _ (text : List ℕ) (s : List ℕ) (t : Current) where
     unfolding parse_literal here ◌>>=◌ and_then pure
     literal-read f = rw (parse_literal, e, and_then, f, start-of s t)
 
-module _ (s : List ℕ) (t : Current) {n x a e : ℕ} {u : Current} (y : Ready s t n x) (k : string_of t ≡ From a e) (r : Arrived) (h : (next (stream s t) ≡ arrival s r) × Lies s (end_in t) r) (q : r ≡ At u) where
+module _ (s : List ℕ) (t : Token) {l : Lent} {a : Part} {u : Token} (y : Ready s t l) (k : string_of t ≡ Some a) (h : (next (stream s t) ≡ read tt (stream s u)) × LiesIn s (end_in t) u) where
   pub literal-on : Onward s t u 1
-  literal-on = (next-got s r y.lies (string-in y k).holds h q).onward
+  literal-on = (next-got s y.lies (string-in y k).holds h).onward
 
-  pub literal-given : {v : Current} {p i m z j l : ℕ} {ws ts vs us : List ℕ} {b : Lent} → Lists (parse_props (stream s u)) (nodes_of prop_branch) s u 0 b v (lent m ws z ts) i → p ≡ start_in t
-      → Stores (node 11 p (encode_all (decode_string (codes (cut s a e)))) 0 0 i ∷ []) (lent m ws z ts) (lent j vs l us) × (l ≤ z + length (cut s a e))
-      → Gives (parse_literal (decode_string (part_of s a e)) (stream s t)) (nodes_of literal_branch) s t b v (lent j vs l us)
-  literal-given g o st =
-      let w = got-less (encode_all (decode_string (codes (cut s a e)))) (next-got s r y.lies (string-in y k).holds h q) (stored-text st.0 st.1) in
+  pub literal-given : {v : Token} {p i : ℕ} {b c d : Lent} → Lists (parse_props (stream s u)) (nodes_of prop_branch) s u 0 b v c i → p ≡ start_in t
+      → Stores (node 11 p (encode_all (decode_string (codes (cut s a.from a.to)))) 0 0 i ∷ []) c d → d.x ≤ c.x + length (cut s a.from a.to)
+      → Gives (parse_literal (decode_string (part_of s a)) (stream s t)) (nodes_of literal_branch) s t b v d
+  literal-given g o st few =
+      let w = got-less (encode_all (decode_string (codes (cut s a.from a.to)))) (next-got s y.lies (string-in y k).holds h) (stored-text st few) in
       record {
-        value = record { start = start_in t; literal = decode_string (part_of s a e); props = g.items };
-        gives = literal-read (decode_string (part_of s a e)) s t (arrived-at s r h.0 q) g.gives;
+        value = record { start = start_in t; literal = decode_string (part_of s a); props = g.items };
+        gives = literal-read (decode_string (part_of s a)) s t h.0 g.gives;
         onward = onward-least 1 (onward_then w.onward g.onward) (omega arith);
-        lays = rw (nodes-over prop_branch (named 11 (start_in t) (decode_string (part_of s a e))) g.items, g.counted, ← o) (lays_parent g.lays st.0 w.onward w.past (omega arith));
+        lays = rw (nodes-over prop_branch (named 11 (start_in t) (decode_string (part_of s a))) g.items, g.counted, ← o) (lays_parent g.lays st w.onward w.past (omega arith));
       }

@@ -9,66 +9,53 @@ use mathlib.Core.List.{List, [], ◌∷◌, ◌++◌}
 use lib.ListN.{length, length-append}
 use Rattle.basics.specs.Basics.{letters, every}
 use Rattle.error.specs.Causes.{unexpected_token}
-use Rattle.error.specs.declared.Cause.{Cause}
-use Rattle.error.specs.Promise.{cause_number}
+use Rattle.std.specs.Prelude.{Some, Result, Ok, Err}
+use Rattle.error.specs.declared.Stop.{Stop}
+use Rattle.lexer.specs.declared.Part.{Part}
+use Rattle.lexer.specs.declared.Token.{Token}
+use Rattle.lexer.specs.declared.Token.TheVariants.{Of, Eof}
 use Rattle.characters.specs.Utf8.{encode_all}
 use Rattle.characters.specs.Places.{cut}
 use Rattle.lexer.specs.Tokens.{Tokens}
-use Rattle.lexer.specs.Promise as L
-use Rattle.lexer.specs.Promise.{part_of, is_plain}
+use Rattle.lexer.specs.Promise.{part_of, is_plain, IsPart}
 use Rattle.lexer.specs.Escapes.{decode_string}
 use Rattle.tree.specs.Syntax.{Identifier}
 use Rattle.tree.specs.Records.{nodes, count, texts_of}
 use Rattle.notation.specs.Parser.{read, refused, and_then, ◌>>=◌, pure, kind_of, kind, name_in, says, refuse_here, next, eat_if, eat_name, must, expect_name, expect_string, parse_identifier}
 use Rattle.notation.specs.Declarations.{parse_source}
 use Rattle.tokens.specs.Promise.{stream, start_in, LiesIn, EatsName, Identifies, TakesString}
-use Rattle.parser.specs.Storing.{Lent, lent, Stores, node, nodes_of}
+use Rattle.parser.specs.Storing.{Lent, Stores, node, nodes_of}
 use Rattle.parser.specs.Steps.{Onward, Ready, Gives}
 use Rattle.parser.specs.Shapes.{IsToken}
-use Rattle.tokens.specs.declared.Current.{Current}
-use Rattle.tokens.specs.declared.Current.TheVariants.{Token, End}
-use Rattle.tokens.specs.declared.Arrived.TheVariants.{At}
-use Rattle.tokens.specs.declared.Eaten.{Eaten}
-use Rattle.tokens.specs.declared.Eaten.TheVariants as E
-use Rattle.tokens.specs.declared.Taken.{Taken}
-use Rattle.tokens.specs.declared.Taken.TheVariants as G
+use Rattle.lexer.specs.declared.Token.{Token}
+use Rattle.lexer.specs.declared.Token.TheVariants.{Of, Eof}
 use Rattle.tokens.proofs.Stream.{start-of}
 use Rattle.parser.proofs.Onward.{if_true, next-onward, onward_then, onward-least, placed_in}
-use Rattle.parser.proofs.Ready.{part-short, cut-length, stored-text, name-got, string-got, taken_at, identifier_at, taken_not}
+use Rattle.parser.proofs.Ready.{part-short, cut-length, stored-text, name-got, string-got}
 use Rattle.parser.proofs.Stored.{stores-then}
 use Rattle.declarations.specs.Sources.{GotSource, TakesSource, IdSource, from_source, from_branch}
 
 -- ------------------------------------------------------------------ a word
 
 module _ (w : Quoted) (s : List ℕ) where
-  word-token : (t : Current) (us : Tokens ℕ) → eat_name w (stream s t) ≡ read true us → IsToken t
+  word-token : (t : Token) (us : Tokens ℕ) → eat_name w (stream s t) ≡ read true us → IsToken t
   unfolding eat_name eat_if kind kind_of stream ◌>>=◌ and_then pure
-  word-token (Token k start end) us e = tt
-  word-token (End p) us e = absurd (let z : ◌≡◌ {A = ℕ} 0 1 = cc in omega arith)
+  word-token (Of k start end) us e = tt
+  word-token (Eof p) us e = absurd (let z : ◌≡◌ {A = ℕ} 0 1 = cc in omega arith)
 
-  word_next : (t : Current) (us : Tokens ℕ) → eat_name w (stream s t) ≡ read true us → next (stream s t) ≡ read tt us
+  word_next : (t : Token) (us : Tokens ℕ) → eat_name w (stream s t) ≡ read true us → next (stream s t) ≡ read tt us
   unfolding eat_name kind ◌>>=◌ and_then
   word_next t us e = (if_true (says w (name_in (kind_of (stream s t)))) (stream s t) us e).1
 
-module _ (w : Quoted) (s : List ℕ) (t : Current) (r : Eaten) (h : EatsName s t (letters w) r) (plain : is_plain (letters w) ≡ true) where
-  pub word_yes : {u : Current} → r ≡ E.Yes u → eat_name w (stream s t) ≡ read true (stream s u)
-  word_yes {u} e = let k : EatsName s t (letters w) (E.Yes u) = rw e at h in k.eats w refl plain
-
-  pub word_no : r ≡ E.No → eat_name w (stream s t) ≡ read false (stream s t)
-  word_no e = let k : EatsName s t (letters w) E.No = rw e at h in k.eats w refl plain
-
-  pub word_not : {c : Cause} {p : ℕ} → r ≡ E.Refused c p → eat_name w (stream s t) ≡ refused (cause_number c) p
-  word_not {c} {p} e = let k : EatsName s t (letters w) (E.Refused c p) = rw e at h in k.eats w refl plain
-
-  pub word-onward : {u : Current} → LiesIn s 0 t → r ≡ E.Yes u → Onward s t u 1
-  word-onward {u} l e =
-      let k : EatsName s t (letters w) (E.Yes u) = rw e at h in
+module _ (w : Quoted) (s : List ℕ) (t : Token) {u : Token} where
+  pub word-onward : is_plain (letters w) ≡ true → LiesIn s 0 t → EatsName s t (letters w) (Ok (Some u)) → Onward s t u 1
+  word-onward plain l k =
       let q = k.eats w refl plain in
-      next-onward s t u (At u) (word-token w s t (stream s u) q) l (word_next w s t (stream s u) q, k.lies) refl
+      next-onward s t (word-token w s t (stream s u) q) l (word_next w s t (stream s u) q, k.lies)
 
 -- ------------------------------------------------------------------ a source
 
-module _ (s : List ℕ) (t : Current) where
+module _ (s : List ℕ) (t : Token) where
   pub source-refused : {c p : ℕ} → eat_name "from" (stream s t) ≡ refused c p → parse_source (stream s t) ≡ refused c p
   unfolding parse_source expect_name ◌>>=◌ and_then
   source-refused e = rw (parse_source, expect_name, e)
@@ -81,28 +68,20 @@ module _ (s : List ℕ) (t : Current) where
   unfolding parse_source expect_name must pure ◌>>=◌ and_then
   source-string e = rw (parse_source, expect_name, e, must)
 
-  pub source-taken : (u : Current) → eat_name "from" (stream s t) ≡ read true (stream s u) → Onward s t u 1 → (r : Taken) → TakesString s u r → TakesSource s t r
-  source-taken u e o (G.Got a f v) h =
-      let m = string-got s (G.Got a f v) o.lies refl h in
+  pub source-taken : {u : Token} → eat_name "from" (stream s t) ≡ read true (stream s u) → Onward s t u 1 → (r : Result (Part × Token) Stop) → TakesString s u r → TakesSource s t r
+  source-taken e o (Ok (a, v)) h =
+      let m = string-got s o.lies h in
       let l = cut-length s m.0.part in
       let w = m.1.past in
       let x = o.ahead in
       let i = m.0.part.forth in
       record {
-        gives = source-string e ∙ taken_at decode_string s (G.Got a f v) h.takes refl;
+        gives = source-string e ∙ h.takes;
         part = m.0.part;
         onward = onward_then o m.1.onward;
         between = omega arith;
       }
-  source-taken u e o (G.Refused c p) h = source-string e ∙ taken_not decode_string s (G.Refused c p) h.takes refl
-
--- by its variant
-module _ (s : List ℕ) (t : Current) (r : Taken) (h : TakesSource s t r) where
-  pub source-at : {a e : ℕ} {u : Current} → r ≡ G.Got a e u → GotSource s t a e u
-  source-at q = rw q at h
-
-  pub source_not : {c : Cause} {p : ℕ} → r ≡ G.Refused c p → parse_source (stream s t) ≡ refused (cause_number c) p
-  source_not q = rw q at h
+  source-taken e o (Err d) h = source-string e ∙ h.takes
 
 -- ------------------------------------------------------------------ a name and its source
 
@@ -128,43 +107,43 @@ unfolding texts_of
 pair_text x y k p = let l = length-append x (y ++ []) in let m = length-append y [] in omega arith
 
 -- what is stored of it
-module _ {s : List ℕ} {t u v : Current} {a e b f start : ℕ} (k : ℕ) (r : Taken) (l : LiesIn s 0 t) (i : Identifies s t r) (q : r ≡ G.Got a e u) (g : GotSource s u b f v) where
-  pub from-given : {m o c : Lent} → length (encode_all (decode_string (part_of s b f))) + b ≤ f
-      → Stores (node 15 0 (encode_all (decode_string (part_of s b f))) 0 0 0 ∷ []) m o → Stores (node k start (cut s a e) 0 0 1 ∷ []) o c
+module _ {s : List ℕ} {t u v : Token} {a b : Part} {start : ℕ} (k : ℕ) (l : LiesIn s 0 t) (i : Identifies s t (Ok (a, u))) (g : GotSource s u b v) where
+  pub from-given : {m o c : Lent} → length (encode_all (decode_string (part_of s b))) + b.from ≤ b.to
+      → Stores (node 15 0 (encode_all (decode_string (part_of s b))) 0 0 0 ∷ []) m o → Stores (node k start (cut s a.from a.to) 0 0 1 ∷ []) o c
       → Gives (from_source (stream s t)) (nodes_of (from_branch k start)) s t m v c
   from-given few y z =
-      let d = name-got s r l q i in
+      let d = name-got s l i in
       let bytes = d.0.part.bytes in
       let cl = cut-length s d.0.part in
       let past = d.1.past in
       let ahead = d.1.onward.ahead in
       let bt = g.between in
       let on = g.onward.ahead in
-      let n = nodes-from k start (record { id = part_of s a e; source = decode_string (part_of s b f) }) in
-      let two = pair_text (encode_all (decode_string (part_of s b f))) (cut s a e) k start in
+      let n = nodes-from k start (record { id = part_of s a; source = decode_string (part_of s b) }) in
+      let two = pair_text (encode_all (decode_string (part_of s b))) (cut s a.from a.to) k start in
       record {
-        value = record { id = part_of s a e; source = decode_string (part_of s b f) };
-        gives = from-read (stream s t) (identifier_at s _ r i q) g.gives;
+        value = record { id = part_of s a; source = decode_string (part_of s b) };
+        gives = from-read (stream s t) i.takes g.gives;
         onward = onward-least 1 (onward_then d.1.onward g.onward) (omega arith);
         lays = rw (n, bytes) (record { stores = stores-then y z; bound = omega arith; space = omega arith });
       }
 
-pub from-small : {s : List ℕ} {t : Current} {n x : ℕ} → Ready s t n x → (n ≤ 0x42000000) × (x ≤ 0x42000000)
+pub from-small : {s : List ℕ} {t : Token} {a : Lent} → Ready s t a → (a.n ≤ 0x42000000) × (a.x ≤ 0x42000000)
 from-small {s} {t} r = let a = r.room in let b = r.space in let c = placed_in s t r.lies in let d = r.small in (omega arith, omega arith)
 
 -- behind the source's node
-module _ {s : List ℕ} {b f n x m y : ℕ} {ws ts vs us : List ℕ} {t : List ℕ} (p : L.Part s b f) (st : Stores (node 15 0 t 0 0 0 ∷ []) (lent n ws x ts) (lent m vs y us)) (h : y ≤ x + length (cut s b f)) where
-  pub source-few : length t + b ≤ f
+module _ {s : List ℕ} {b : Part} {a c : Lent} {t : List ℕ} (p : IsPart s b) (st : Stores (node 15 0 t 0 0 0 ∷ []) a c) (h : c.x ≤ a.x + length (cut s b.from b.to)) where
+  pub source-few : length t + b.from ≤ b.to
   source-few = let l = cut-length s p in let k = stored-text st h in let i = p.forth in omega arith
 
-  pub source-next : {u : Current} → Ready s u n x → (m ≤ 0x50000000) × (y ≤ 0x50000000)
+  pub source-next : {u : Token} → Ready s u a → (c.n ≤ 0x50000000) × (c.x ≤ 0x50000000)
   source-next r =
       let w = from-small r in
       let a = w.0 in
-      let c = w.1 in
+      let d = w.1 in
       let e = st.words-end in
       let l = (part-short s p).short in
-      let d = r.small in
+      let f = r.small in
       (omega arith, omega arith)
 
 pub from-plain : is_plain (letters "from") ≡ true

@@ -1,9 +1,11 @@
 -- A name and its source.
 -- Assumes nothing.
-use Rattle.std.specs.Prelude.{ℕ, ◌+◌, ◌≤◌, ◌≡◌, List}
+use Rattle.std.specs.Prelude.{ℕ, ◌+◌, ◌≤◌, ◌≡◌, List, Result, Ok, Err}
+use Rattle.error.specs.declared.Stop.{Stop}
 use Rattle.error.specs.Promise.{cause_number}
-use Rattle.lexer.specs.Promise as L
-use Rattle.lexer.specs.Promise.{part_of}
+use Rattle.lexer.specs.Promise.{IsPart, part_of}
+use Rattle.lexer.specs.declared.Part.{Part}
+use Rattle.lexer.specs.declared.Token.{Token}
 use Rattle.lexer.specs.Escapes.{decode_string}
 use Rattle.tree.specs.Records.{Branch, branch, []ᴮ, ◌∷ᴮ◌}
 use Rattle.tree.specs.Stored.{named, source_branch}
@@ -11,21 +13,18 @@ use Rattle.notation.specs.Parser.{read, refused, Parser, ◌>>=◌, pure, choose
 use Rattle.notation.specs.Declarations.{parse_source}
 use Rattle.tokens.specs.Promise.{stream}
 use Rattle.parser.specs.Steps.{placed, Onward}
-use Rattle.tokens.specs.declared.Current.{Current}
-use Rattle.tokens.specs.declared.Taken.{Taken}
-use Rattle.tokens.specs.declared.Taken.TheVariants.{Got, Refused}
 
 -- a source string stands in a part of the text between the tokens t and u
-pub record GotSource (s : List ℕ) (t : Current) (a e : ℕ) (u : Current) : Type 0 where
-  pub gives : parse_source (stream s t) ≡ read (decode_string (part_of s a e)) (stream s u)
-  pub part : L.Part s a e
+pub record GotSource (s : List ℕ) (t : Token) (a : Part) (u : Token) : Type 0 where
+  pub gives : parse_source (stream s t) ≡ read (decode_string (part_of s a)) (stream s u)
+  pub part : IsPart s a
   pub onward : Onward s t u 2
-  pub between : e + placed s t ≤ a + placed s u
+  pub between : a.to + placed s t ≤ a.from + placed s u
 
 -- what an answer says of `from` and a string: the source stands in this part of the text, or it is refused with this cause and place
-abbrev pub TakesSource : List ℕ → Current → Taken → Type 0
-TakesSource s t (Got a e u) = GotSource s t a e u
-TakesSource s t (Refused c p) = parse_source (stream s t) ≡ refused (cause_number c) p
+abbrev pub TakesSource : List ℕ → Token → Result (Part × Token) Stop → Type 0
+TakesSource s t (Ok (a, u)) = GotSource s t a u
+TakesSource s t (Err e) = parse_source (stream s t) ≡ refused (cause_number e.cause) e.place
 
 -- a name and its source
 pub record IdSource : Type 0 where
@@ -48,13 +47,13 @@ unfoldable pub as_name : (before : List ℕ) → Parser ℕ (List ℕ)
 as_name n = eat_name "as" >>= λ renamed. choose renamed (parse_identifier >>= λ i. pure i.name) (pure n)
 
 -- it stands in a part of the text: the name before, or one between the tokens t and u
-pub record GotId (s : List ℕ) (t : Current) (a e b f : ℕ) (u : Current) : Type 0 where
-  pub gives : as_name (part_of s a e) (stream s t) ≡ read (part_of s b f) (stream s u)
+pub record GotId (s : List ℕ) (t : Token) (a b : Part) (u : Token) : Type 0 where
+  pub gives : as_name (part_of s a) (stream s t) ≡ read (part_of s b) (stream s u)
   pub onward : Onward s t u 0
-  pub part : L.Part s b f
-  pub room : f + a + placed s t ≤ b + e + placed s u
+  pub part : IsPart s b
+  pub room : b.to + a.from + placed s t ≤ b.from + a.to + placed s u
 
 -- what an answer says of the name that `as_name` reads: it stands in this part of the text, or is refused with this cause and place
-abbrev pub TakesId : List ℕ → Current → (a e : ℕ) → Taken → Type 0
-TakesId s t a e (Got b f u) = GotId s t a e b f u
-TakesId s t a e (Refused c p) = as_name (part_of s a e) (stream s t) ≡ refused (cause_number c) p
+abbrev pub TakesId : List ℕ → Token → Part → Result (Part × Token) Stop → Type 0
+TakesId s t a (Ok (b, u)) = GotId s t a b u
+TakesId s t a (Err e) = as_name (part_of s a) (stream s t) ≡ refused (cause_number e.cause) e.place

@@ -1,7 +1,6 @@
 -- Lines and columns, one byte after another.
 -- Assumes nothing.
 use mathlib.Core.Path.{◌≡◌, refl, sym, ◌∙◌, ap}
-use mathlib.Core.Logic.{◌⊎◌, ⊎_elim}
 use mathlib.Core.List.{List, [], ◌∷◌, ◌++◌}
 use Prim.Native.Nat.{ℕ, suc, ◌+◌, ◌-◌, ◌≤◌, ◌<◌}
 use native.Mathlib.Nat.{add-zero}
@@ -9,6 +8,8 @@ use native.Mathlib.Numerals.{add-one}
 use native.Mathlib.Omega.{arith}
 use lib.ListN.{length, get_or, take}
 use lib.Seq.{take-suc, take_all, length-take-le}
+use Rattle.std.proofs.Common.{min}
+use Rattle.std.proofs.lemmas.List.{take_min}
 use borrow.Author.Tests.{eq-eqb, ne_eqb}
 use Rattle.basics.specs.Basics.{if◌then◌otherwise◌, is}
 use Rattle.error.specs.Lines.{line_feeds, line_start, line_at, column_at}
@@ -63,14 +64,11 @@ module _ (text : List ℕ) (i : ℕ) {line start : ℕ} (h : i < length text) (k
     early = let f = k.early in omega arith;
   }
 
--- at the place, or at the end of the text before it
-pub lined-at : (text : List ℕ) (i place : ℕ) {line start : ℕ} → Lined text i line start → i ≤ place → (place ≤ i) ⊎ (length text ≤ i)
-    → (line ≡ line_at text place) × (place - start ≡ column_at text place)
+-- at the end of the bytes before the place
+pub lined-end : (text : List ℕ) (n place i : ℕ) {line start : ℕ} → Lined (take n text) i line start → n ≡ min place (length text)
+    → length (take n text) ≤ i → (line ≡ line_at text place) × (place - start ≡ column_at text place)
 unfolding line_at column_at
-lined-at text i place k h w = rw (k.lines, k.starts, ⊎_elim here past w) (refl, refl)
+lined-end text n place i k e w = rw (k.lines, k.starts, all) (refl, refl)
   where
-    here : place ≤ i → take i text ≡ take place text
-    here g = let e : i ≡ place = omega arith in rw e
-
-    past : length text ≤ i → take i text ≡ take place text
-    past g = take_all i text g ∙ sym (take_all place text (omega arith))
+    all : take i (take n text) ≡ take place text
+    all = take_all i (take n text) w ∙ rw e (take_min place text)

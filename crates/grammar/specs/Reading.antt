@@ -1,9 +1,8 @@
 -- The grammar of a text, or what stops its reading: 1 and 2 first, then 3 to 21 in reading order.
 -- Assumes nothing.
-use Rattle.std.specs.Prelude.{ℕ, true, false, List, ltb, length}
+use Rattle.std.specs.Prelude.{ℕ, true, false, List, Result, Ok, Err, ltb, length}
 use Rattle.error.specs.Causes.{too_long, not_utf8}
-use Rattle.characters.specs.declared.Checked.{Checked}
-use Rattle.characters.specs.declared.Checked.TheVariants.{Good, IllAt}
+use Rattle.characters.specs.declared.IllFormed.{IllFormed}
 use Rattle.characters.specs.Utf8.{row, lead_len, char_of, first_char, on_char, check_from, check, codes_from, codes, is_scalar, encode}
 use Rattle.characters.specs.Spans.{in_spans}
 use Rattle.characters.specs.Alphabetic.{spans, is_alphabetic}
@@ -31,9 +30,9 @@ answered (read g ts) = tree g
 answered (refused n p) = stopped n p
 
 -- of bytes that are checked
-abbrev pub read_checked : List ℕ → Checked → Reading
-read_checked text Good = answered (parse_grammar (tokens (codes text)))
-read_checked text (IllAt p) = stopped not_utf8 p
+abbrev pub read_checked : List ℕ → Result (Unit {0}) IllFormed → Reading
+read_checked text (Ok checked) = answered (parse_grammar (tokens (codes text)))
+read_checked text (Err e) = stopped not_utf8 e.at
 
 -- the whole of reading: a text that is too long, then one that is not UTF-8, then 3 to 21
 unfoldable pub reading : List ℕ → Reading

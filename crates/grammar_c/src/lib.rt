@@ -5,11 +5,10 @@
 
 ghost use Rattle.std.specs.Prelude.{◌≡◌};
 ghost use Rattle.error.specs.Promise.{refusal_of};
-ghost use Rattle.answers.specs.Words.{laid};
 ghost use Rattle.grammar_c.specs.Answers.{refusal_words, ReadsTo, WritesTo, ComparesTo};
 
-use calls::{CompareAnswer, NormalAnswer, ReadAnswer};
 use error::Refusal;
+use tree::Tree;
 
 // Reads a text: its tree is stored over the front of the words and bytes that are lent. The last two words of the answer are how many
 // words and bytes the tree takes.
@@ -22,18 +21,11 @@ pub extern "C" fn hemvuda_read(
 )
     ensures { ReadsTo text.now records.old texts.old answer.old records.new texts.new answer.new }
 {
-    match calls::read(text, records, texts) {
-        ReadAnswer::Stored(words, bytes) => answers::put(
-            answer,
-            0,
-            0,
-            0,
-            0,
-            words as u64,
-            bytes as u64,
-        ),
-        ReadAnswer::Refused(refusal) => put_refusal(answer, refusal),
-    }
+    let words = match calls::read(text, records, texts) {
+        Ok(stored) => [0, 0, 0, 0, stored.words as u64, stored.bytes as u64],
+        Err(refusal) => refusal_words(refusal),
+    };
+    answers::put(answer, words);
 }
 
 // Reads a text as `hemvuda_read` does, and writes its normal text over the front of the output. The last two words of the answer are how
@@ -48,10 +40,11 @@ pub extern "C" fn hemvuda_normal_text(
 )
     ensures { WritesTo text.now records.old texts.old output.old answer.old records.new texts.new output.new answer.new }
 {
-    match calls::normal_text(text, records, texts, output) {
-        NormalAnswer::Written(bytes) => answers::put(answer, 0, 0, 0, 0, bytes as u64, 0),
-        NormalAnswer::Refused(refusal) => put_refusal(answer, refusal),
-    }
+    let words = match calls::normal_text(text, records, texts, output) {
+        Ok(bytes) => [0, 0, 0, 0, bytes as u64, 0],
+        Err(refusal) => refusal_words(refusal),
+    };
+    answers::put(answer, words);
 }
 
 // Compares two stored expressions. The last two words of the answer are 1 for equal or 0 for different, and 0.
@@ -65,23 +58,36 @@ pub extern "C" fn hemvuda_structurally_eq(
 )
     ensures { ComparesTo left_records.now left_texts.now right_records.now right_texts.now answer.old answer.new }
 {
-    match calls::structurally_eq(left_records, left_texts, right_records, right_texts) {
-        CompareAnswer::Compared(equal) => answers::put(answer, 0, 0, 0, 0, equal as u64, 0),
-        CompareAnswer::Refused(refusal) => put_refusal(answer, refusal),
-    }
+    let left = Tree {
+        records: left_records,
+        texts: left_texts,
+    };
+    let right = Tree {
+        records: right_records,
+        texts: right_texts,
+    };
+    let words = match calls::structurally_eq(left, right) {
+        Ok(equal) => [0, 0, 0, 0, equal as u64, 0],
+        Err(refusal) => refusal_words(refusal),
+    };
+    answers::put(answer, words);
 }
 
-fn put_refusal(answer: &mut [u64], refusal: Refusal)
-    ensures { answer.new ≡ laid (refusal_words (refusal_of refusal)) answer.old }
+fn refusal_words(refusal: Refusal) -> [u64; 6]
+    ensures { result ≡ refusal_words (refusal_of refusal) }
 {
-    let cause = refusal.cause;
-    answers::put(
-        answer,
-        error::number(cause) as u64,
-        refusal.place as u64,
-        refusal.line as u64,
-        refusal.column as u64,
+    let Refusal {
+        cause,
+        place,
+        line,
+        column,
+    } = refusal;
+    [
+        cause.number() as u64,
+        place as u64,
+        line as u64,
+        column as u64,
         0,
         0,
-    )
+    ]
 }

@@ -10,8 +10,8 @@ use lib.Seq.{drop-drop, drop-append_seam}
 use borrow.Author.Tests.{le-ltb}
 use Rattle.basics.proofs.Tests.{impossible}
 use Rattle.characters.specs.Utf8.{row, lead_len, char_of, first_char, on_char, check_from, check, codes_from, codes, is_scalar, encode, encode_all, width}
-use Rattle.characters.specs.declared.Checked.{Checked}
-use Rattle.characters.specs.declared.Checked.TheVariants.{Good, IllAt}
+use Rattle.characters.specs.declared.IllFormed.{IllFormed}
+use Rattle.std.specs.Prelude.{Result, Ok, Err}
 use Rattle.characters.specs.Spans.{in_spans}
 use Rattle.characters.specs.Alphabetic.{spans, is_alphabetic}
 use Rattle.characters.specs.Classes.{white_space, is_whitespace, is_ecmascript_whitespace, is_line_terminator, is_punctuation, is_word}
@@ -35,7 +35,7 @@ use Rattle.laws.proofs.MeetsDeclarations.{parse-meets}
 
 -- ------------------------------------------------------------------ UTF-8
 
-check-from : (s : List ℕ) (at : ℕ) {cs : List ℕ} → Scalars cs → drop at s ≡ encode_all cs → check_from 0 at (drop at s) ≡ Good
+check-from : (s : List ℕ) (at : ℕ) {cs : List ℕ} → Scalars cs → drop at s ≡ encode_all cs → check_from 0 at (drop at s) ≡ Ok tt
 unfolding encode_all decode_at check_from
 check-from s at none_left e = rw (e, check_from)
 check-from s at (one_more {c = c} {cs = cs} h t) e =
@@ -43,7 +43,7 @@ check-from s at (one_more {c = c} {cs = cs} h t) e =
     ∙ check-from s (at + width c) t (sym (drop-drop (width c) at s) ∙ ap (drop (width c)) e ∙ drop-append_seam (encode c) (encode_all cs))
 
 -- what UTF-8 writes is well formed
-check-all : {cs : List ℕ} → Scalars cs → check (encode_all cs) ≡ Good
+check-all : {cs : List ℕ} → Scalars cs → check (encode_all cs) ≡ Ok tt
 unfolding check
 check-all {cs} s = check-from (encode_all cs) 0 s refl
 
@@ -83,9 +83,9 @@ module _ (g : GrammarDeclaration ℕ) where
       rw same-tree at met.1
   good-answer ts f (refused n p) e q = not_tree q
 
-  good-checked : (text : List ℕ) (c : Checked) → read_checked text c ≡ tree g → GoodGrammar (bare g)
-  good-checked text Good e = good-answer (tokens (codes text)) (tokens-fine text) (parse_grammar (tokens (codes text))) refl e
-  good-checked text (IllAt p) e = not_tree e
+  good-checked : (text : List ℕ) (c : Result (Unit {0}) IllFormed) → read_checked text c ≡ tree g → GoodGrammar (bare g)
+  good-checked text (Ok checked) e = good-answer (tokens (codes text)) (tokens-fine text) (parse_grammar (tokens (codes text))) refl e
+  good-checked text (Err d) e = not_tree e
 
   -- what is accepted is good
   pub accepted-good : (text : List ℕ) → reading text ≡ tree g → GoodGrammar (bare g)

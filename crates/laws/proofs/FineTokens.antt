@@ -8,8 +8,8 @@ use mathlib.Core.List.{List, [], ◌∷◌, map}
 use mathlib.Core.Option.{Option, none, some}
 use lib.ListN.{take, drop}
 use Rattle.basics.specs.Basics.{if◌then◌otherwise◌, letters, is, among, head}
-use Rattle.characters.specs.declared.Char.{Char}
-use Rattle.characters.specs.declared.Char.TheVariants.{Scalar, Ill}
+use Rattle.std.specs.Prelude.{Some, None}
+use Rattle.std.specs.Prelude as P
 use Rattle.characters.specs.Classes.{is_ecmascript_whitespace, is_line_terminator, is_punctuation, is_word}
 use Rattle.characters.specs.Places.{run}
 use Rattle.characters.specs.Utf8.{first_char, on_char, codes_from, codes, is_scalar, width}
@@ -32,9 +32,9 @@ codes-scalars j [] = none_left
 codes-scalars (suc j) (b ∷ bs) = codes-scalars j bs
 codes-scalars zero (b ∷ bs) = go (first_char (b ∷ bs)) refl (λ j. codes-scalars j bs)
   where
-    go : (c : Char) → first_char (b ∷ bs) ≡ c → ((j : ℕ) → Scalars (codes_from j bs)) → Scalars (on_char c (λ c n. c ∷ codes_from (n - 1) bs) [])
-    go (Scalar c n) e h = one_more (stands (b ∷ bs) e).scalar (h (n - 1))
-    go Ill e h = none_left
+    go : (c : P.Option (ℕ × ℕ)) → first_char (b ∷ bs) ≡ c → ((j : ℕ) → Scalars (codes_from j bs)) → Scalars (on_char c (λ c n. c ∷ codes_from (n - 1) bs) [])
+    go (Some (c, n)) e h = one_more (stands (b ∷ bs) e).scalar (h (n - 1))
+    go None e h = none_left
 
 take-scalars : (n : ℕ) {cs : List ℕ} → Scalars cs → Scalars (take n cs)
 take-scalars zero s = none_left

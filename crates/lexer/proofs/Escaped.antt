@@ -10,24 +10,30 @@ use native.Mathlib.Omega.{arith}
 use lib.Dec.{eqb}
 use lib.ListN.{length, drop, length-append}
 use borrow.Author.Tests.{le-ltb, le-leb, eq-eqb, ne_eqb}
+use Rattle.std.proofs.Common.{Some, None}
+use Rattle.std.specs.Option.{unwrap_or}
+use Rattle.std.specs.Bool.{then_some}
+use Rattle.std.proofs.Common as Std
+use Rattle.lexer.specs.declared.escapes.Taken.{Taken}
+use Rattle.lexer.specs.declared.escapes.Atom.{Atom}
 use Rattle.basics.specs.Basics.{if◌then◌otherwise◌, is, among, letters, head}
 use Rattle.characters.specs.Places.{decode_at, past, chars_at, peek_at}
 use Rattle.characters.specs.Utf8.{codes, encode_all, width, encode, is_scalar}
 use Rattle.characters.specs.Promise.{Next, written, written_all, scalar_bytes}
 use Rattle.characters.proofs.Encode.{scalar-low, width_some, IsScalar, width_small, ascii-wide}
 use Rattle.characters.proofs.Written.{bytes-some, length-written}
-use Rattle.characters.specs.declared.Char.{Char}
-use Rattle.characters.specs.declared.Char.TheVariants.{Scalar, Ill}
 use Rattle.characters.proofs.Laws.{scalar_fits}
 use Rattle.basics.proofs.Tests.{within-true, impossible}
 use Rattle.characters.proofs.Chars.{codes-on, codes_off, stands_at, run_at, peek_on, next-head}
 use Rattle.lexer.specs.Escapes.{hex_digit, Escape, further, scalar, fixed, until_brace, braced, or_else, or_letter, control, escape, escaped_by, atoms_from, atoms, decode_string}
 use Rattle.lexer.specs.Promise.{digit_of, hex_at, braced_at, until_at, fixed_at, Takes, atoms_at, atom_answer, AtomPlaced, ReadsAtom}
-use Rattle.lexer.specs.declared.escapes.Digit.TheVariants.{Is, No}
-use Rattle.lexer.specs.declared.escapes.Atom.{Atom}
-use Rattle.lexer.specs.declared.escapes.Atom.TheVariants.{One, End}
 use Rattle.lexer.specs.Escapes as E
-use Rattle.lexer.specs.declared.escapes.Hex.TheVariants.{Code, Not}
+
+abbrev taken : ℕ → ℕ → Taken
+taken v end = record { code = v; end = end }
+
+abbrev atom : ℕ → Bool → ℕ → Atom
+atom c x end = record { code = c; escaped = x; end = end }
 
 if_cases {ℓ κ} : {A : Type ℓ} (P : A → Type κ) (b : Bool) {x y : A} → (b ≡ true → P x) → (b ≡ false → P y) → P (if b then x otherwise y)
 if_cases P true f g = f refl
@@ -52,17 +58,17 @@ good c =
     (λ _. if_cases (Good c) _ (λ e. let h = within-true 0x61 0x66 c e in record { low = omega arith; high = omega arith; small = omega arith; other = λ q. omega arith })
     (λ _. tt)))
 
-digit-some : (c d : ℕ) → Is d ≡ digit_of (hex_digit c) → hex_digit c ≡ some d
+digit-some : (c d : ℕ) → Some d ≡ digit_of (hex_digit c) → hex_digit c ≡ some d
 digit-some c d = by (hex_digit c)
   where
-    by : (o : Option ℕ) → Is d ≡ digit_of o → o ≡ some d
+    by : (o : Option ℕ) → Some d ≡ digit_of o → o ≡ some d
     by none e = cc
     by (some x) e = cc
 
-pub digit-none : (c : ℕ) → No ≡ digit_of (hex_digit c) → hex_digit c ≡ none
+pub digit-none : (c : ℕ) → None ≡ digit_of (hex_digit c) → hex_digit c ≡ none
 digit-none c = by (hex_digit c)
   where
-    by : (o : Option ℕ) → No ≡ digit_of o → o ≡ none
+    by : (o : Option ℕ) → None ≡ digit_of o → o ≡ none
     by none e = refl
     by (some x) e = cc
 
@@ -73,7 +79,7 @@ pub record Digit-at (s : List ℕ) (at c d : ℕ) : Type 0 where
   pub high : c < 0x80
   pub other : c ≡ 0x7D → ⊥
 
-pub digit_at_lem : (s : List ℕ) (at c d : ℕ) → c ≡ peek_at s at → Is d ≡ digit_of (hex_digit c) → Digit-at s at c d
+pub digit_at_lem : (s : List ℕ) (at c d : ℕ) → c ≡ peek_at s at → Some d ≡ digit_of (hex_digit c) → Digit-at s at c d
 digit_at_lem s at c d p e =
     let h = digit-some c d e in
     let g = subst (Good c) h (good c) in
@@ -137,24 +143,19 @@ module _ (s : List ℕ) (at : ℕ) where
   fixed-step zero v c d h g = absurd (omega arith)
   fixed-step (suc l) v c d h g = rw (one l) (fixed-next l v g)
 
-  pub fixed_not : (l v c : ℕ) → 0 < l → c ≡ peek_at s at → No ≡ digit_of (hex_digit c) → fixed_at l v s at ≡ Not
+  pub fixed_not : (l v c : ℕ) → 0 < l → c ≡ peek_at s at → None ≡ digit_of (hex_digit c) → fixed_at l v s at ≡ None
   unfolding fixed_at fixed
   fixed_not zero v c h p e = absurd (omega arith)
   fixed_not (suc l) v c h p e = by (decode_at s at) refl
     where
-      by : (ch : Char) → decode_at s at ≡ ch → fixed_at (suc l) v s at ≡ Not
-      by Ill d = rw (codes_off s at d)
-      by (Scalar x n) d = rw (codes-on s at d, fixed_off x (chars_at s (at + n)) l v (subst (λ (z : ℕ). hex_digit z ≡ none) (p ∙ peek_on s at d) (digit-none c e)))
+      by : (ch : Std.Option (ℕ × ℕ)) → decode_at s at ≡ ch → fixed_at (suc l) v s at ≡ None
+      by None d = rw (codes_off s at d)
+      by (Some (x, n)) d = rw (codes-on s at d, fixed_off x (chars_at s (at + n)) l v (subst (λ (z : ℕ). hex_digit z ≡ none) (p ∙ peek_on s at d) (digit-none c e)))
 
-  pub fixed-good : (l v : ℕ) → l ≤ 0 → is_scalar v ≡ true → fixed_at l v s at ≡ Code v at
+  pub fixed-end : (v : ℕ) (ok : Bool) → ok ≡ is_scalar v → fixed_at 0 v s at ≡ then_some ok (taken v at)
   unfolding fixed_at fixed scalar past
-  fixed-good zero v h e = rw e
-  fixed-good (suc l) v h e = absurd (omega arith)
-
-  pub fixed-bad : (l v : ℕ) → l ≤ 0 → is_scalar v ≡ false → fixed_at l v s at ≡ Not
-  unfolding fixed_at fixed scalar
-  fixed-bad zero v h e = rw e
-  fixed-bad (suc l) v h e = absurd (omega arith)
+  fixed-end v true w = rw (← w)
+  fixed-end v false w = rw (← w)
 
   pub until-step : (v c d : ℕ) → Digit-at s at c d → until_at v s at ≡ until_at (v * 16 + d) s (at + 1)
   unfolding until_at
@@ -163,17 +164,17 @@ module _ (s : List ℕ) (at : ℕ) where
       (hex-further at c (chars_at s (at + 1)) (until_brace (v * 16 + d) (chars_at s (at + 1)))
       ∙ ap (λ (w : ℕ). hex_at (at + w) (chars_at s (at + 1)) (until_brace (v * 16 + d) (chars_at s (at + 1)))) (ascii-wide c h.high))
 
-  pub until-big : (v : ℕ) → 0x110000 ≤ v → until_at v s at ≡ Not
+  pub until-big : (v : ℕ) → 0x110000 ≤ v → until_at v s at ≡ None
   unfolding until_at
   until-big v h = rw (big (chars_at s at) v h)
 
-  pub until_not : (v c : ℕ) → c ≡ peek_at s at → (c ≡ 0x7D → ⊥) → No ≡ digit_of (hex_digit c) → until_at v s at ≡ Not
+  pub until_not : (v c : ℕ) → c ≡ peek_at s at → (c ≡ 0x7D → ⊥) → None ≡ digit_of (hex_digit c) → until_at v s at ≡ None
   unfolding until_at until_brace
   until_not v c p o e = by (decode_at s at) refl
     where
-      by : (ch : Char) → decode_at s at ≡ ch → until_at v s at ≡ Not
-      by Ill d = rw (codes_off s at d)
-      by (Scalar x n) d =
+      by : (ch : Std.Option (ℕ × ℕ)) → decode_at s at ≡ ch → until_at v s at ≡ None
+      by None d = rw (codes_off s at d)
+      by (Some (x, n)) d =
           let q : c ≡ x = p ∙ peek_on s at d in
           rw (codes-on s at d, until_off x (chars_at s (at + n)) v (ne_eqb x 0x7D (λ z. o (q ∙ z))) (subst (λ (z : ℕ). hex_digit z ≡ none) q (digit-none c e)))
 
@@ -183,14 +184,11 @@ module _ (s : List ℕ) (at : ℕ) where
   pub brace-inside : (c : ℕ) → c ≡ peek_at s at → c ≡ 0x7D → at + 1 ≤ length s
   brace-inside c p e = (brace c p e).inside
 
-  pub until-good : (v c : ℕ) → c ≡ peek_at s at → c ≡ 0x7D → is_scalar v ≡ true → until_at v s at ≡ Code v (at + 1)
+  pub until-end : (v c : ℕ) → c ≡ peek_at s at → c ≡ 0x7D → (ok : Bool) → ok ≡ is_scalar v → until_at v s at ≡ then_some ok (taken v (at + 1))
   unfolding until_at scalar past
-  until-good v c p e w =
-      rw ((brace c p e).chars, until_end 0x7D (chars_at s (at + 1)) v refl, w) (ap (λ (k : ℕ). Code v (at + k)) (ascii-wide 0x7D (omega arith)))
-
-  pub until-bad : (v c : ℕ) → c ≡ peek_at s at → c ≡ 0x7D → is_scalar v ≡ false → until_at v s at ≡ Not
-  unfolding until_at scalar
-  until-bad v c p e w = rw ((brace c p e).chars, until_end 0x7D (chars_at s (at + 1)) v refl, w)
+  until-end v c p e true w =
+      rw ((brace c p e).chars, until_end 0x7D (chars_at s (at + 1)) v refl, ← w) (ap (λ (k : ℕ). Some (taken v (at + k))) (ascii-wide 0x7D (omega arith)))
+  until-end v c p e false w = rw ((brace c p e).chars, until_end 0x7D (chars_at s (at + 1)) v refl, ← w)
 
 -- the greatest number before l more digits of four
 abbrev pub greatest : ℕ → ℕ
@@ -207,14 +205,14 @@ greater (suc (suc (suc (suc (suc l))))) v d h h' g f = absurd (omega arith)
 
 -- a number in braces
 module _ (s : List ℕ) (at : ℕ) where
-  pub braced_not : (peek_at s at ≡ 0x7B → ⊥) → braced_at s at ≡ Not
+  pub braced_not : (peek_at s at ≡ 0x7B → ⊥) → braced_at s at ≡ None
   unfolding braced_at braced peek_at
   braced_not h = rw (ne_eqb (head (chars_at s at)) 0x7B h)
 
   pub braced-next : peek_at s at ≡ 0x7B → Next s at 0x7B
   braced-next h = next-head s at 0x7B (omega arith) (omega arith) h
 
-  pub braced-empty : peek_at s at ≡ 0x7B → peek_at s (at + 1) ≡ 0x7D → braced_at s at ≡ Not
+  pub braced-empty : peek_at s at ≡ 0x7B → peek_at s (at + 1) ≡ 0x7D → braced_at s at ≡ None
   unfolding braced_at braced peek_at
   braced-empty h g = rw ((braced-next h).chars, g)
 
@@ -227,34 +225,37 @@ module _ (s : List ℕ) (at : ℕ) where
 
 -- the number, or the letter
 module _ (s : List ℕ) (at : ℕ) where
-  not_hex : (cs : List ℕ) (o : Option Escape) → Not ≡ hex_at at cs o → o ≡ none
+  not_hex : (cs : List ℕ) (o : Option Escape) → None ≡ hex_at at cs o → o ≡ none
   not_hex cs none h = refl
   not_hex cs (some e) h = cc
 
-  takes-code : (e v end : ℕ) (o : Option Escape) → Code v end ≡ hex_at at (chars_at s at) o → Takes s at (or_letter e o) v end
-  takes-code e v end none h = impossible (cc)
-  takes-code e v end (some x) h = record { char = cc; ends = cc }
+  takes-code : (e : ℕ) (t : Taken) (o : Option Escape) → Some t ≡ hex_at at (chars_at s at) o → Takes s at (or_letter e o) t
+  takes-code e t none h = impossible (cc)
+  takes-code e t (some x) h =
+      let q : t ≡ taken x.char (past at x.taken (chars_at s at)) = cc in
+      record { char = ap (λ (u : Taken). u.code) q; ends = ap (λ (u : Taken). u.end) q }
 
-  pub digits-code : (e k v end : ℕ) → Code v end ≡ fixed_at k 0 s at → Takes s at (or_letter e (fixed k 0 (chars_at s at))) v end
-  unfolding fixed_at
-  digits-code e k v end h = takes-code e v end (fixed k 0 (chars_at s at)) h
-
-  pub digits_letter : (e k : ℕ) → Not ≡ fixed_at k 0 s at → Takes s at (or_letter e (fixed k 0 (chars_at s at))) e at
+  digits-letter : (e k : ℕ) → None ≡ fixed_at k 0 s at → Takes s at (or_letter e (fixed k 0 (chars_at s at))) (taken e at)
   unfolding fixed_at past
-  digits_letter e k h = rw (not_hex (chars_at s at) (fixed k 0 (chars_at s at)) h) (record { char = refl; ends = refl })
+  digits-letter e k h = rw (not_hex (chars_at s at) (fixed k 0 (chars_at s at)) h) (record { char = refl; ends = refl })
 
-  or_code : (e v end : ℕ) (o b : Option Escape) → Code v end ≡ hex_at at (chars_at s at) o → Takes s at (or_letter e (or_else o b)) v end
-  or_code e v end none b h = impossible (cc)
-  or_code e v end (some x) b h = record { char = cc; ends = cc }
+  pub digits-or : (e k : ℕ) (o : Std.Option Taken) → o ≡ fixed_at k 0 s at → Takes s at (or_letter e (fixed k 0 (chars_at s at))) (unwrap_or o (taken e at))
+  unfolding fixed_at
+  digits-or e k None h = digits-letter e k h
+  digits-or e k (Some t) h = takes-code e t (fixed k 0 (chars_at s at)) h
 
-  pub unicode_code : (e v end : ℕ) → Code v end ≡ braced_at s at → Takes s at (or_letter e (or_else (braced (chars_at s at)) (fixed 4 0 (chars_at s at)))) v end
+  or_code : (e : ℕ) (t : Taken) (o b : Option Escape) → Some t ≡ hex_at at (chars_at s at) o → Takes s at (or_letter e (or_else o b)) t
+  or_code e t none b h = impossible (cc)
+  or_code e t (some x) b h = takes-code e t (some x) h
+
+  pub unicode_code : (e : ℕ) (t : Taken) → Some t ≡ braced_at s at → Takes s at (or_letter e (or_else (braced (chars_at s at)) (fixed 4 0 (chars_at s at)))) t
   unfolding braced_at
-  unicode_code e v end h = or_code e v end (braced (chars_at s at)) (fixed 4 0 (chars_at s at)) h
+  unicode_code e t h = or_code e t (braced (chars_at s at)) (fixed 4 0 (chars_at s at)) h
 
-  pub unicode_else : (e v end : ℕ) → Not ≡ braced_at s at → Takes s at (or_letter e (fixed 4 0 (chars_at s at))) v end
-      → Takes s at (or_letter e (or_else (braced (chars_at s at)) (fixed 4 0 (chars_at s at)))) v end
+  pub unicode_else : (e : ℕ) (t : Taken) → None ≡ braced_at s at → Takes s at (or_letter e (fixed 4 0 (chars_at s at))) t
+      → Takes s at (or_letter e (or_else (braced (chars_at s at)) (fixed 4 0 (chars_at s at)))) t
   unfolding braced_at
-  unicode_else e v end h t = rw (not_hex (chars_at s at) (braced (chars_at s at)) h) t
+  unicode_else e t h k = rw (not_hex (chars_at s at) (braced (chars_at s at)) h) k
 
 -- an escape by its letter
 module _ (e : ℕ) (cs : List ℕ) where
@@ -266,12 +267,12 @@ module _ (e : ℕ) (cs : List ℕ) where
   unfolding escape
   escape-x w v = rw (w, v)
 
-  pub escape-other : (e ≡ 0x75 → ⊥) → (e ≡ 0x55 → ⊥) → (e ≡ 0x78 → ⊥) → (e ≡ 0x58 → ⊥) → escape e cs ≡ record { char = control e; taken = 0 }
+  pub escape-other : ((e ≡ 0x55) ⊎ (e ≡ 0x75) → ⊥) → ((e ≡ 0x58) ⊎ (e ≡ 0x78) → ⊥) → escape e cs ≡ record { char = control e; taken = 0 }
   unfolding escape
-  escape-other h₁ h₂ h₃ h₄ = rw (ne_eqb e 0x75 h₁, ne_eqb e 0x55 h₂, ne_eqb e 0x78 h₃, ne_eqb e 0x58 h₄)
+  escape-other u x = rw (ne_eqb e 0x75 (λ q. u (inr q)), ne_eqb e 0x55 (λ q. u (inl q)), ne_eqb e 0x78 (λ q. x (inr q)), ne_eqb e 0x58 (λ q. x (inl q)))
 
-pub takes_as : (s : List ℕ) (at : ℕ) (x y : Escape) (v end : ℕ) → x ≡ y → Takes s at y v end → Takes s at x v end
-takes_as s at x y v end e t = rw e t
+pub takes_as : (s : List ℕ) (at : ℕ) (x y : Escape) (v : Taken) → x ≡ y → Takes s at y v → Takes s at x v
+takes_as s at x y v e t = rw e t
 
 -- an escape stands for a character, and takes m characters at least, which are there
 record Sized (m : ℕ) (cs : List ℕ) (x : Escape) : Type 0 where
@@ -405,12 +406,12 @@ escaped_as l e cs v h q r y =
     (ap (λ (z : List E.Atom). record { char = (escape e cs).char; escaped = true } ∷ z) y))
 
 module _ (s : List ℕ) (at : ℕ) where
-  pub atom-none : decode_at s at ≡ Ill → ReadsAtom s at End
+  pub atom-none : decode_at s at ≡ None → ReadsAtom s at None
   unfolding atoms_at atoms_from
   atom-none e = record { atoms = rw (codes_off s at e); placed = tt }
 
-  module _ {c n : ℕ} (d : decode_at s at ≡ Scalar c n) where
-    pub atom-plain : (c ≡ 0x5C → ⊥) → ReadsAtom s at (One c false (at + n))
+  module _ {c n : ℕ} (d : decode_at s at ≡ Some (c, n)) where
+    pub atom-plain : (c ≡ 0x5C → ⊥) → ReadsAtom s at (Some (atom c false (at + n)))
     unfolding atoms_at
     atom-plain h =
         let f = scalar_fits s at d in
@@ -418,12 +419,12 @@ module _ (s : List ℕ) (at : ℕ) where
         record { atoms = rw (codes-on s at d) (atoms-plain c (chars_at s (at + n)) (ne_eqb c 0x5C h)); placed = (omega arith, omega arith, (stands_at s at d).scalar) }
 
     module _ (h : c ≡ 0x5C) where
-      pub atom-lone : decode_at s (at + n) ≡ Ill → ReadsAtom s at End
+      pub atom-lone : decode_at s (at + n) ≡ None → ReadsAtom s at None
       unfolding atoms_at
       atom-lone i =
           record { atoms = rw (codes-on s at d) (atoms-escaped c (chars_at s (at + n)) (eq-eqb c 0x5C h) ∙ rw (codes_off s (at + n) i)); placed = tt }
 
-      pub atom-escape : (e m v end : ℕ) → decode_at s (at + n) ≡ Scalar e m → Takes s (at + n + m) (escape e (chars_at s (at + n + m))) v end → ReadsAtom s at (One v true end)
+      pub atom-escape : (e m v end : ℕ) → decode_at s (at + n) ≡ Some (e, m) → Takes s (at + n + m) (escape e (chars_at s (at + n + m))) (taken v end) → ReadsAtom s at (Some (atom v true end))
       unfolding atoms_at past
       atom-escape e m v end i t =
           let f = scalar_fits s at d in
@@ -451,7 +452,7 @@ unfoldable pub value_at : List ℕ → ℕ → List ℕ
 value_at s at = map (λ a. a.char) (atoms_at s at)
 
 module _ (s : List ℕ) (at : ℕ) where
-  pub value-end : (r : Atom) → ReadsAtom s at r → r ≡ End → value_at s at ≡ []
+  pub value-end : (r : Std.Option Atom) → ReadsAtom s at r → r ≡ None → value_at s at ≡ []
   unfolding value_at
   value-end r h e = ap (map (λ a. a.char)) (h.atoms ∙ ap (atom_answer s) e)
 
@@ -462,11 +463,11 @@ module _ (s : List ℕ) (at : ℕ) where
     pub scalar : IsScalar c
     pub value : value_at s at ≡ c ∷ value_at s end
 
-  pub value_on : (r : Atom) (c end : ℕ) (x : Bool) → ReadsAtom s at r → r ≡ One c x end → Value c end
+  pub value_on : (r : Std.Option Atom) (a : Atom) → ReadsAtom s at r → r ≡ Some a → Value a.code a.end
   unfolding value_at
-  value_on r c end x h e =
+  value_on r a h e =
       let p = subst (AtomPlaced s at) e h.placed in
-      let w = width_some c in
+      let w = width_some a.code in
       record { past = (let l = p.0 in omega arith); forth = p.0; inside = p.1; scalar = p.2; value = ap (map (λ a. a.char)) (h.atoms ∙ ap (atom_answer s) e) }
 
 -- n bytes of a string's value are written, up to place `at` of its text
@@ -514,8 +515,8 @@ module _ (body out₀ out : List ℕ) (at n : ℕ) (d : Decoding body out₀ out
 
 -- the next atom
 module _ (s : List ℕ) (at : ℕ) where
-  pub atoms_off : (r : Atom) → ReadsAtom s at r → r ≡ End → atoms_at s at ≡ []
+  pub atoms_off : (r : Std.Option Atom) → ReadsAtom s at r → r ≡ None → atoms_at s at ≡ []
   atoms_off r h e = h.atoms ∙ ap (atom_answer s) e
 
-  pub atoms-on : (r : Atom) (c end : ℕ) (x : Bool) → ReadsAtom s at r → r ≡ One c x end → atoms_at s at ≡ record { char = c; escaped = x } ∷ atoms_at s end
-  atoms-on r c end x h e = h.atoms ∙ ap (atom_answer s) e
+  pub atoms-on : (r : Std.Option Atom) (a : Atom) → ReadsAtom s at r → r ≡ Some a → atoms_at s at ≡ record { char = a.code; escaped = a.escaped } ∷ atoms_at s a.end
+  atoms-on r a h e = h.atoms ∙ ap (atom_answer s) e

@@ -3,17 +3,27 @@
 use mathlib.Core.Path.{◌≡◌, refl, sym, ◌∙◌, ap, ap₂, subst}
 use mathlib.Core.Bool.{Bool, true, false}
 use mathlib.Core.List.{List, ◌∷◌, []}
+use mathlib.Core.Logic.{◌⊎◌, inl, inr}
 use mathlib.Core.Option.{Option, none, some}
 use Prim.Native.Nat.{ℕ, zero, suc, ◌+◌, ◌-◌, ◌≤◌, ◌<◌}
 use native.Mathlib.Omega.{arith}
 use native.Mathlib.Decide.{dec_lt}
 use lib.ListN.{length, take, drop}
 use borrow.Author.Tests.{ne_eqb, eqb-true}
+use Rattle.std.proofs.Common.{Some, None, Result, Ok, Err}
+use Rattle.std.proofs.Common as Std
+use Rattle.error.specs.declared.Cause.{Cause}
+use Rattle.error.specs.declared.Cause.TheVariants.{UnexpectedCharacter, UnterminatedString, AtWithoutName, UnterminatedSet}
+use Rattle.error.specs.declared.Stop.{Stop}
+use Rattle.lexer.specs.declared.Part.{Part}
+use Rattle.lexer.specs.declared.Kind.{Kind}
+use Rattle.lexer.specs.declared.Kind.TheVariants.{String, Set, Punctuation, Identifier}
+use Rattle.lexer.specs.declared.Kind.TheVariants as K
+use Rattle.lexer.specs.declared.Token.{Token}
+use Rattle.lexer.specs.declared.Token.TheVariants.{Of, Eof}
 use Rattle.characters.specs.Places.{decode_at, past, chars_at, peek_at, run}
 use Rattle.characters.specs.Utf8.{width}
 use Rattle.characters.specs.Promise.{Next, run_end}
-use Rattle.characters.specs.declared.Char.{Char}
-use Rattle.characters.specs.declared.Char.TheVariants.{Scalar, Ill}
 use Rattle.characters.proofs.Laws.{scalar_fits}
 use Rattle.characters.proofs.Chars.{codes-on, codes_off, stands_at, Run, run_at, next-head}
 use Rattle.characters.proofs.Encode.{ascii-wide}
@@ -21,35 +31,37 @@ use Rattle.basics.specs.Basics.{is, among, letters}
 use Rattle.basics.proofs.Tests.{both_true, impossible}
 use Rattle.characters.specs.Classes.{is_line_terminator, is_punctuation, is_word}
 use Rattle.lexer.specs.Tokens.{body, never, Piece, string_of, set_of, at_of, solid, Tokens, tokens_from}
-use Rattle.lexer.specs.Promise.{opens_set, tokens_at, found_at, end_of, Settled, Skipped, Part, Lexes, Reads}
-use Rattle.lexer.specs.declared.Found.TheVariants.{At, Missing}
-use Rattle.lexer.specs.declared.Trivia.{Trivia}
-use Rattle.lexer.specs.declared.Trivia.TheVariants.{Clear, Unclosed}
-use Rattle.lexer.specs.declared.Cause.TheVariants.{UnexpectedCharacter, UnterminatedString, AtWithoutName, UnterminatedSet}
-use Rattle.lexer.specs.declared.Kind.TheVariants.{String, Set, Punctuation, Identifier}
-use Rattle.lexer.specs.declared.Lexed.{Lexed}
-use Rattle.lexer.specs.declared.Lexed.TheVariants.{Token, Eof, Refused}
+use Rattle.lexer.specs.Promise.{opens_set, tokens_at, found_at, end_of, Settled, Skipped, IsPart, Lexes, Reads}
 use Rattle.lexer.proofs.Tokens.{tokens-at, tokens-next, tokens-piece}
 use Rattle.characters.proofs.Runs.{run_no, run_on}
-use Rattle.lexer.specs.declared.Kind.TheVariants as K
 use Rattle.lexer.specs.Tokens as T
 use Rattle.error.specs.Causes.{unexpected_character}
+
+abbrev part : ℕ → ℕ → Part
+part a e = record { from = a; to = e }
+
+abbrev token : Kind → ℕ → ℕ → Result Token Stop
+token k start end = Ok (Of k start end)
+
+abbrev stopped : Cause → ℕ → Result Token Stop
+stopped c at = Err (record { cause = c; place = at })
 
 data Got (at : ℕ) (cs : List ℕ) : Option ℕ → ℕ → ℕ → Type 0 where
   got : (k : ℕ) → Got at cs (some k) (past at k cs) (past at (suc k) cs)
 
-got_of : (at : ℕ) (cs : List ℕ) (o : Option ℕ) (e end : ℕ) → At e end ≡ found_at at cs o → Got at cs o e end
+got_of : (at : ℕ) (cs : List ℕ) (o : Option ℕ) (e end : ℕ) → Some (e, end) ≡ found_at at cs o → Got at cs o e end
 got_of at cs none e end h = impossible (cc)
 got_of at cs (some k) e end h =
-    let p : e ≡ past at k cs = cc in
-    let q : end ≡ past at (suc k) cs = cc in
+    let w : ◌≡◌ {A = ℕ × ℕ} (e, end) (past at k cs, past at (suc k) cs) = cc in
+    let p : e ≡ past at k cs = ap (λ (x : ℕ × ℕ). x.0) w in
+    let q : end ≡ past at (suc k) cs = ap (λ (x : ℕ × ℕ). x.1) w in
     rw (p, q) (got k)
 
-not_got : (at : ℕ) (cs : List ℕ) (o : Option ℕ) → Missing ≡ found_at at cs o → o ≡ none
+not_got : (at : ℕ) (cs : List ℕ) (o : Option ℕ) → None ≡ found_at at cs o → o ≡ none
 not_got at cs none h = refl
 not_got at cs (some k) h = cc
 
-part_of : {s : List ℕ} {a k e : ℕ} → Run s a k e → Part s a e
+part_of : {s : List ℕ} {a k e : ℕ} → Run s a k e → IsPart s (part a e)
 part_of r = record { forth = r.forth; inside = r.inside; bytes = r.bytes }
 
 -- one character more is no less
@@ -66,7 +78,7 @@ next_peek s at c n = rw n.chars
 
 module _ (s : List ℕ) (at : ℕ) (i : at + 1 ≤ length s) where
   string_lexes : (q : ℕ) {o : Option ℕ} {e end : ℕ} → peek_at s at ≡ q → Got (at + 1) (chars_at s (at + 1)) o e end
-      → Lexes s at 1 (string_of (chars_at s (at + 1)) o) (Token (String q (at + 1) e) at end)
+      → Lexes s at 1 (string_of (chars_at s (at + 1)) o) (token (String q (part (at + 1) e)) at end)
   string_lexes q p (got k) =
       let r = run_at s (at + 1) k i in
       let t = run_at s (at + 1) (suc k) i in
@@ -77,11 +89,11 @@ module _ (s : List ℕ) (at : ℕ) (i : at + 1 ≤ length s) where
         placed = (omega arith, omega arith, t.inside, (p, part_of r), (omega arith, past-step (at + 1) k (chars_at s (at + 1))));
       }
 
-  string_open : {o : Option ℕ} → o ≡ none → Lexes s at 1 (string_of (chars_at s (at + 1)) o) (Refused UnterminatedString at)
+  string_open : {o : Option ℕ} → o ≡ none → Lexes s at 1 (string_of (chars_at s (at + 1)) o) (stopped UnterminatedString at)
   string_open h = rw h (record { tokens = refl; placed = tt })
 
   set_lexes : (x : Bool) {o : Option ℕ} {e end : ℕ} → Next s (at + 1) 0x5B → Got (at + 2) (chars_at s (at + 2)) o e end
-      → Lexes s at 1 (set_of x (drop 1 (chars_at s (at + 1))) o) (Token (Set x (at + 2) e) at end)
+      → Lexes s at 1 (set_of x (drop 1 (chars_at s (at + 1))) o) (token (Set x (part (at + 2) e)) at end)
   set_lexes x n (got k) =
       let g : at + 1 + 1 ≡ at + 2 = omega arith in
       let j = n.inside in
@@ -97,29 +109,29 @@ module _ (s : List ℕ) (at : ℕ) (i : at + 1 ≤ length s) where
         placed = (omega arith, omega arith, t.inside, part_of r, (omega arith, past-step (at + 2) k (chars_at s (at + 2))));
       }
 
-  pub string-done : (q e end : ℕ) → peek_at s at ≡ q → At e end ≡ end_of is_line_terminator q s (at + 1) false
-      → Lexes s at 1 (string_of (chars_at s (at + 1)) (body is_line_terminator q false (chars_at s (at + 1)))) (Token (String q (at + 1) e) at end)
+  pub string-done : (q e end : ℕ) → peek_at s at ≡ q → Some (e, end) ≡ end_of is_line_terminator q s (at + 1) false
+      → Lexes s at 1 (string_of (chars_at s (at + 1)) (body is_line_terminator q false (chars_at s (at + 1)))) (token (String q (part (at + 1) e)) at end)
   string-done q e end p h = string_lexes q p (got_of (at + 1) (chars_at s (at + 1)) (body is_line_terminator q false (chars_at s (at + 1))) e end h)
 
-  pub string_fails : (q : ℕ) → Missing ≡ end_of is_line_terminator q s (at + 1) false
-      → Lexes s at 1 (string_of (chars_at s (at + 1)) (body is_line_terminator q false (chars_at s (at + 1)))) (Refused UnterminatedString at)
+  pub string_fails : (q : ℕ) → None ≡ end_of is_line_terminator q s (at + 1) false
+      → Lexes s at 1 (string_of (chars_at s (at + 1)) (body is_line_terminator q false (chars_at s (at + 1)))) (stopped UnterminatedString at)
   string_fails q h = string_open (not_got (at + 1) (chars_at s (at + 1)) (body is_line_terminator q false (chars_at s (at + 1))) h)
 
-  set_open : (x : Bool) {o : Option ℕ} → o ≡ none → Lexes s at 1 (set_of x (drop 1 (chars_at s (at + 1))) o) (Refused UnterminatedSet at)
+  set_open : (x : Bool) {o : Option ℕ} → o ≡ none → Lexes s at 1 (set_of x (drop 1 (chars_at s (at + 1))) o) (stopped UnterminatedSet at)
   set_open x h = rw h (record { tokens = refl; placed = tt })
 
   set_body : Next s (at + 1) 0x5B → body never 0x5D false (drop 1 (chars_at s (at + 1))) ≡ body never 0x5D false (chars_at s (at + 2))
   set_body n = let g : at + 1 + 1 ≡ at + 2 = omega arith in rw (n.chars, g)
 
-  pub set-done : (x : Bool) (e end : ℕ) → Next s (at + 1) 0x5B → At e end ≡ end_of never 0x5D s (at + 2) false
-      → Lexes s at 1 (set_of x (drop 1 (chars_at s (at + 1))) (body never 0x5D false (drop 1 (chars_at s (at + 1))))) (Token (Set x (at + 2) e) at end)
+  pub set-done : (x : Bool) (e end : ℕ) → Next s (at + 1) 0x5B → Some (e, end) ≡ end_of never 0x5D s (at + 2) false
+      → Lexes s at 1 (set_of x (drop 1 (chars_at s (at + 1))) (body never 0x5D false (drop 1 (chars_at s (at + 1))))) (token (Set x (part (at + 2) e)) at end)
   set-done x e end n h = rw (set_body n) (set_lexes x n (got_of (at + 2) (chars_at s (at + 2)) (body never 0x5D false (chars_at s (at + 2))) e end h))
 
-  pub set_fails : (x : Bool) → Next s (at + 1) 0x5B → Missing ≡ end_of never 0x5D s (at + 2) false
-      → Lexes s at 1 (set_of x (drop 1 (chars_at s (at + 1))) (body never 0x5D false (drop 1 (chars_at s (at + 1))))) (Refused UnterminatedSet at)
+  pub set_fails : (x : Bool) → Next s (at + 1) 0x5B → None ≡ end_of never 0x5D s (at + 2) false
+      → Lexes s at 1 (set_of x (drop 1 (chars_at s (at + 1))) (body never 0x5D false (drop 1 (chars_at s (at + 1))))) (stopped UnterminatedSet at)
   set_fails x n h = set_open x (set_body n ∙ not_got (at + 2) (chars_at s (at + 2)) (body never 0x5D false (chars_at s (at + 2))) h)
 
-  at-of : (k : ℕ) → 1 ≤ k → Lexes s at 1 (at_of (chars_at s (at + 1)) k) (Token (K.At (at + 1) (past (at + 1) k (chars_at s (at + 1)))) at (past (at + 1) k (chars_at s (at + 1))))
+  at-of : (k : ℕ) → 1 ≤ k → Lexes s at 1 (at_of (chars_at s (at + 1)) k) (token (K.At (part (at + 1) (past (at + 1) k (chars_at s (at + 1))))) at (past (at + 1) k (chars_at s (at + 1))))
   at-of zero h = absurd (omega arith)
   at-of (suc k) h =
       let r = run_at s (at + 1) (suc k) i in
@@ -136,17 +148,17 @@ module _ (p : ℕ → Bool) (s : List ℕ) (at : ℕ) where
   unfolding run_end
   run-forth i = (run_at s at (run p (chars_at s at)) i).forth
 
-run-one : (p : ℕ → Bool) (s : List ℕ) (at : ℕ) {c n : ℕ} → decode_at s at ≡ Scalar c n → (b : Bool) → p c ≡ b → run_end p s at ≡ at → run p (chars_at s at) ≡ 0
+run-one : (p : ℕ → Bool) (s : List ℕ) (at : ℕ) {c n : ℕ} → decode_at s at ≡ Some (c, n) → (b : Bool) → p c ≡ b → run_end p s at ≡ at → run p (chars_at s at) ≡ 0
 run-one p s at {c} {n} e true w h =
     let f = scalar_fits s at e in
     let r = run-forth p s (at + n) f.1 in
     let g : at ≡ run_end p s (at + n) = sym h ∙ run_on p s at e w in absurd (omega arith)
 run-one p s at {c} {n} e false w h = rw (codes-on s at e) (run_no p c (chars_at s (at + n)) w)
 
-run_by : (p : ℕ → Bool) (s : List ℕ) (at : ℕ) (ch : Char) → decode_at s at ≡ ch → run_end p s at ≡ at → run p (chars_at s at) ≡ 0
+run_by : (p : ℕ → Bool) (s : List ℕ) (at : ℕ) (ch : Std.Option (ℕ × ℕ)) → decode_at s at ≡ ch → run_end p s at ≡ at → run p (chars_at s at) ≡ 0
 unfolding run
-run_by p s at Ill e h = rw (codes_off s at e)
-run_by p s at (Scalar c n) e h = run-one p s at e (p c) refl h
+run_by p s at None e h = rw (codes_off s at e)
+run_by p s at (Some (c, n)) e h = run-one p s at e (p c) refl h
 
 run-some : (p : ℕ → Bool) (s : List ℕ) (at : ℕ) → (run_end p s at ≡ at → ⊥) → 1 ≤ run p (chars_at s at)
 unfolding run_end past
@@ -157,18 +169,18 @@ run-some p s at h = by (run p (chars_at s at)) refl
     by (suc k) e = omega arith
 
 module _ (s : List ℕ) (at : ℕ) (i : at + 1 ≤ length s) where
-  pub at_bare : run_end is_word s (at + 1) ≡ at + 1 → Lexes s at 1 (at_of (chars_at s (at + 1)) (run is_word (chars_at s (at + 1)))) (Refused AtWithoutName at)
+  pub at_bare : run_end is_word s (at + 1) ≡ at + 1 → Lexes s at 1 (at_of (chars_at s (at + 1)) (run is_word (chars_at s (at + 1)))) (stopped AtWithoutName at)
   at_bare h = rw (run_by is_word s (at + 1) (decode_at s (at + 1)) refl h) (record { tokens = refl; placed = tt })
 
   pub at_lexes : (end : ℕ) → end ≡ run_end is_word s (at + 1) → (end ≡ at + 1 → ⊥)
-      → Lexes s at 1 (at_of (chars_at s (at + 1)) (run is_word (chars_at s (at + 1)))) (Token (K.At (at + 1) end) at end)
+      → Lexes s at 1 (at_of (chars_at s (at + 1)) (run is_word (chars_at s (at + 1)))) (token (K.At (part (at + 1) end)) at end)
   unfolding run_end
   at_lexes end e h = rw e (at-of s at i (run is_word (chars_at s (at + 1))) (run-some is_word s (at + 1) (λ q. h (e ∙ q))))
 
 -- a token that is a word, or a mark
-module _ (s : List ℕ) (at : ℕ) {c n : ℕ} (d : decode_at s at ≡ Scalar c n) where
+module _ (s : List ℕ) (at : ℕ) {c n : ℕ} (d : decode_at s at ≡ Some (c, n)) where
   pub word_lexes : (end : ℕ) → end ≡ run_end is_word s (at + n)
-      → Lexes s at n (T.token (T.name (c ∷ take (run is_word (chars_at s (at + n))) (chars_at s (at + n)))) (1 + run is_word (chars_at s (at + n)))) (Token (Identifier at end) at end)
+      → Lexes s at n (T.token (T.name (c ∷ take (run is_word (chars_at s (at + n))) (chars_at s (at + n)))) (1 + run is_word (chars_at s (at + n)))) (token (Identifier (part at end)) at end)
   unfolding run_end past
   word_lexes end e =
       let f = scalar_fits s at d in
@@ -182,45 +194,45 @@ module _ (s : List ℕ) (at : ℕ) {c n : ℕ} (d : decode_at s at ≡ Scalar c 
         placed = (omega arith, omega arith, r.inside, part_of r, (omega arith, omega arith));
       })
 
-  pub mark_lexes : Lexes s at n (T.token (T.mark c) 1) (Token (Punctuation c) at (at + n))
+  pub mark_lexes : Lexes s at n (T.token (T.mark c) 1) (token (Punctuation c) at (at + n))
   unfolding tokens_at
   mark_lexes = let f = scalar_fits s at d in record { tokens = refl; placed = (omega arith, omega arith, f.1, tt, tt) }
 
-  pub nothing_lexes : Lexes s at n (T.bad unexpected_character) (Refused UnexpectedCharacter at)
+  pub nothing_lexes : Lexes s at n (T.bad unexpected_character) (stopped UnexpectedCharacter at)
   nothing_lexes = record { tokens = refl; placed = tt }
 
   -- the token at a settled place
-  pub reads : {p : Piece} {r : Lexed} → Settled (chars_at s at) → solid c (chars_at s (at + n)) ≡ p → Lexes s at n p r → Reads s at r
+  pub reads : {p : Piece} {r : Result Token Stop} → Settled (chars_at s at) → solid c (chars_at s (at + n)) ≡ p → Lexes s at n p r → Reads s at r
   reads t e h =
       record { tokens = tokens-piece s at d ∙ rw (rw (codes-on s at d) at t, e) h.tokens; placed = h.placed }
 
   pub at_one : (x : ℕ) → x < 0x80 → c ≡ x → n ≡ 1
   at_one x h e = (stands_at s at d).wide ∙ ap width e ∙ ascii-wide x h
 
-  pub reads_1 : {p : Piece} {r : Lexed} (x : ℕ) → x < 0x80 → c ≡ x → Settled (chars_at s at) → solid x (chars_at s (at + 1)) ≡ p → Lexes s at 1 p r → Reads s at r
+  pub reads_1 : {p : Piece} {r : Result Token Stop} (x : ℕ) → x < 0x80 → c ≡ x → Settled (chars_at s at) → solid x (chars_at s (at + 1)) ≡ p → Lexes s at 1 p r → Reads s at r
   reads_1 {p} {r} x h q t e l =
       let k = at_one x h q in reads {p = p} t (rw (q, k) e) (rw k l)
 
 -- a token's first character
 module _ (s : List ℕ) (c p : ℕ) where
-  module _ (h₁ : c ≡ 0x22 → ⊥) (h₂ : c ≡ 0x27 → ⊥) (h₃ : c ≡ 0x40 → ⊥) where
+  module _ (h : (c ≡ 0x22) ⊎ (c ≡ 0x27) → ⊥) (h₃ : c ≡ 0x40 → ⊥) where
     pub solid-set : opens_set s c p ≡ true → solid c (chars_at s p) ≡ set_of (is "!" c) (drop 1 (chars_at s p)) (body never 0x5D false (drop 1 (chars_at s p)))
     unfolding solid opens_set peek_at
-    solid-set e = rw (ne_eqb c 0x22 h₁, ne_eqb c 0x27 h₂, ne_eqb c 0x40 h₃, e)
+    solid-set e = rw (ne_eqb c 0x22 (λ q. h (inl q)), ne_eqb c 0x27 (λ q. h (inr q)), ne_eqb c 0x40 h₃, e)
 
     module _ (h₄ : opens_set s c p ≡ false) where
       pub solid-mark : is_punctuation c ≡ true → solid c (chars_at s p) ≡ T.token (T.mark c) 1
       unfolding solid opens_set peek_at
-      solid-mark e = rw (ne_eqb c 0x22 h₁, ne_eqb c 0x27 h₂, ne_eqb c 0x40 h₃, h₄, e)
+      solid-mark e = rw (ne_eqb c 0x22 (λ q. h (inl q)), ne_eqb c 0x27 (λ q. h (inr q)), ne_eqb c 0x40 h₃, h₄, e)
 
       pub solid-word : is_punctuation c ≡ false → is_word c ≡ true
           → solid c (chars_at s p) ≡ T.token (T.name (c ∷ take (run is_word (chars_at s p)) (chars_at s p))) (1 + run is_word (chars_at s p))
       unfolding solid opens_set peek_at
-      solid-word e w = rw (ne_eqb c 0x22 h₁, ne_eqb c 0x27 h₂, ne_eqb c 0x40 h₃, h₄, e, w)
+      solid-word e w = rw (ne_eqb c 0x22 (λ q. h (inl q)), ne_eqb c 0x27 (λ q. h (inr q)), ne_eqb c 0x40 h₃, h₄, e, w)
 
       pub solid-none : is_punctuation c ≡ false → is_word c ≡ false → solid c (chars_at s p) ≡ T.bad unexpected_character
       unfolding solid opens_set peek_at
-      solid-none e w = rw (ne_eqb c 0x22 h₁, ne_eqb c 0x27 h₂, ne_eqb c 0x40 h₃, h₄, e, w)
+      solid-none e w = rw (ne_eqb c 0x22 (λ q. h (inl q)), ne_eqb c 0x27 (λ q. h (inr q)), ne_eqb c 0x40 h₃, h₄, e, w)
 
 pub solid_quote : (q : ℕ) (cs : List ℕ) → among (letters "\"'") q ≡ true → solid q cs ≡ string_of cs (body is_line_terminator q false cs)
 unfolding solid
@@ -246,20 +258,20 @@ unfolding opens_set
 peek_set s c next e = next-head s next 0x5B (omega arith) (omega arith) (eqb-true (peek_at s next) 0x5B (both_true (among (letters "$!") c) (is "[" (peek_at s next)) e).1)
 
 -- the end of a text
-pub reads_end : (s : List ℕ) (at : ℕ) → decode_at s at ≡ Ill → Reads s at (Eof at)
+pub reads_end : (s : List ℕ) (at : ℕ) → decode_at s at ≡ None → Reads s at (Ok (Eof at))
 unfolding tokens_at tokens_from
 reads_end s at e = record { tokens = rw (codes_off s at e); placed = tt }
 
 -- what skipping gives
-pub clear : (s : List ℕ) (from at : ℕ) (r : Trivia) → Skipped s from r → r ≡ Clear at
+pub clear : (s : List ℕ) (from at : ℕ) (r : Result ℕ Stop) → Skipped s from r → r ≡ Ok at
     → (from ≤ at) × (tokens_at s from ≡ tokens_at s at) × Settled (chars_at s at)
 clear s from at r h e = subst (Skipped s from) e h
 
-pub unclosed : (s : List ℕ) (from p : ℕ) (r : Trivia) → Skipped s from r → r ≡ Unclosed p → Reads s from (Refused UnexpectedCharacter p)
-unclosed s from p r h e = record { tokens = subst (Skipped s from) e h; placed = tt }
+pub unclosed : (s : List ℕ) (from : ℕ) (stop : Stop) (r : Result ℕ Stop) → Skipped s from r → r ≡ Err stop → Reads s from (Err stop)
+unclosed s from stop r h e = record { tokens = subst (Skipped s from) e h; placed = tt }
 
-pub after : (s : List ℕ) (from at : ℕ) (r : Lexed) → from ≤ at → tokens_at s from ≡ tokens_at s at → Reads s at r → Reads s from r
-after s from at (Token k start end) h e p =
+pub after : (s : List ℕ) (from at : ℕ) (r : Result Token Stop) → from ≤ at → tokens_at s from ≡ tokens_at s at → Reads s at r → Reads s from r
+after s from at (Ok (Of k start end)) h e p =
     let q = p.placed in record { tokens = e ∙ p.tokens; placed = (omega arith, q.1, q.2, q.3, q.4) }
-after s from at (Eof x) h e p = record { tokens = e ∙ p.tokens; placed = tt }
-after s from at (Refused k x) h e p = record { tokens = e ∙ p.tokens; placed = tt }
+after s from at (Ok (Eof x)) h e p = record { tokens = e ∙ p.tokens; placed = tt }
+after s from at (Err stop) h e p = record { tokens = e ∙ p.tokens; placed = tt }

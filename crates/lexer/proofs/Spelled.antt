@@ -7,13 +7,13 @@ use Prim.Native.Nat.{ℕ}
 use native.Mathlib.Omega.{arith}
 use lib.Dec.{ltb}
 use borrow.Author.Tests.{ltb-true}
-use Rattle.basics.specs.Basics.{same, letters, every}
+use Rattle.basics.specs.Basics.{same, every}
 use Rattle.basics.proofs.Tests.{both_true}
 use Rattle.basics.proofs.Same.{same_true, same_refl, same_by}
 use Rattle.characters.specs.Utf8.{encode_all, codes}
 use Rattle.characters.proofs.Encode.{scalar-low, encode_1}
 use Rattle.characters.proofs.Chars.{Scalars, none_left, one_more, codes_all}
-use Rattle.lexer.specs.Promise.{is_plain, class_named}
+use Rattle.lexer.specs.Promise.{is_plain}
 
 plain-scalars : (w : List ℕ) → is_plain w ≡ true → Scalars w
 unfolding every
@@ -35,9 +35,3 @@ pub spells-codes : (w bs : List ℕ) → is_plain w ≡ true → encode_all (cod
 spells-codes w bs h e =
     same_by (same w bs) w (codes bs) (λ q. sym (codes_all (plain-scalars w h)) ∙ ap codes (plain-bytes w h ∙ same_true w bs q))
     (λ q. subst (λ (l : List ℕ). same w l ≡ true) (sym (plain-bytes w h) ∙ ap encode_all q ∙ e) (same_refl w))
-
--- and names the same class
-pub class-codes : (bs : List ℕ) → encode_all (codes bs) ≡ bs → class_named bs ≡ class_named (codes bs)
-unfolding class_named every
-class-codes bs e =
-    rw (spells-codes (letters "asciiLetter") bs refl e, spells-codes (letters "asciiLowercase") bs refl e, spells-codes (letters "asciiUppercase") bs refl e, spells-codes (letters "digit") bs refl e, spells-codes (letters "whitespace") bs refl e, spells-codes (letters "eof") bs refl e)

@@ -9,10 +9,10 @@ use native.Mathlib.Omega.{arith}
 use lib.Dec.{eqb}
 use lib.ListN.{length, drop}
 use borrow.Author.Tests.{eq-eqb, ne_eqb}
+use Rattle.std.proofs.Common.{Some, None}
 use Rattle.characters.specs.Places.{decode_at, past, chars_at, peek_at, run}
 use Rattle.characters.specs.Utf8.{width}
 use Rattle.characters.specs.Promise.{Next, run_end}
-use Rattle.characters.specs.declared.Char.TheVariants.{Scalar, Ill}
 use Rattle.characters.proofs.Chars.{codes-on, codes_off, stands_at, run_at, next_of, peek_on, next-head}
 use Rattle.characters.proofs.Encode.{ascii-wide}
 use Rattle.error.specs.Causes.{unexpected_character}
@@ -21,7 +21,6 @@ use Rattle.characters.specs.Classes.{is_whitespace, white_space, is_ecmascript_w
 use Rattle.characters.specs.Spans.{in_spans}
 use Rattle.lexer.specs.Tokens.{more, comment, body, comment_of, piece, Tokens, lay, tokens_from}
 use Rattle.lexer.specs.Promise.{tokens_at, found_at, end_of, Settled}
-use Rattle.lexer.specs.declared.Found.TheVariants.{At, Missing}
 use Rattle.lexer.specs.Tokens as T
 
 -- each definition at a first character
@@ -71,7 +70,7 @@ pub tokens-next : (s : List ℕ) (at k c : ℕ) → Next s at c → c < 0x80 →
 tokens-next s at k c n h = rw n.chars (tokens-one c (chars_at s (at + 1)) k at ∙ ap (λ (w : ℕ). tokens_from (chars_at s (at + 1)) k (at + w)) (ascii-wide c h))
 
 -- a text that begins with a character, by its piece
-pub tokens-piece : (s : List ℕ) (at : ℕ) {c n : ℕ} → decode_at s at ≡ Scalar c n
+pub tokens-piece : (s : List ℕ) (at : ℕ) {c n : ℕ} → decode_at s at ≡ Some (c, n)
     → tokens_at s at ≡ lay (piece c (chars_at s (at + n))) at (λ k. tokens_from (chars_at s (at + n)) k (at + n))
 unfolding tokens_at tokens_from
 tokens-piece s at e = rw (codes-on s at e, (stands_at s at e).wide)
@@ -98,7 +97,7 @@ close_more s start at c cs none = refl
 close_more s start at c cs (some k) = refl
 
 module _ (s : List ℕ) (at : ℕ) where
-  pub space-on : {c n : ℕ} → decode_at s at ≡ Scalar c n → is_ecmascript_whitespace c ≡ true → tokens_at s at ≡ tokens_at s (at + n)
+  pub space-on : {c n : ℕ} → decode_at s at ≡ Some (c, n) → is_ecmascript_whitespace c ≡ true → tokens_at s at ≡ tokens_at s (at + n)
   unfolding piece tokens_at
   space-on e w = tokens-piece s at e ∙ rw w
 
@@ -133,13 +132,13 @@ module _ (s : List ℕ) (at : ℕ) where
           let i = n.inside in
           rw e (tokens-next s (at + 1) (suc (suc k)) 0x2A n (omega arith) ∙ tokens-at s (at + 1 + 1) (suc (suc k)) (omega arith))
 
-  pub block_on : (start : ℕ) {c n : ℕ} → decode_at s at ≡ Scalar c n → (is "*" c && is "/" (head (chars_at s (at + n)))) ≡ false
+  pub block_on : (start : ℕ) {c n : ℕ} → decode_at s at ≡ Some (c, n) → (is "*" c && is "/" (head (chars_at s (at + n)))) ≡ false
       → closed s start at ≡ closed s start (at + n)
   block_on start {c} {n} e w =
       rw (codes-on s at e, comment_no c (chars_at s (at + n)) w) (close_more s start at c (chars_at s (at + n)) (comment (chars_at s (at + n)))
       ∙ ap (λ (w : ℕ). close_at s start (at + w) (chars_at s (at + n)) (comment (chars_at s (at + n)))) (sym (stands_at s at e).wide))
 
-  pub block-end : (start : ℕ) → decode_at s at ≡ Ill → closed s start at ≡ T.bad unexpected_character start
+  pub block-end : (start : ℕ) → decode_at s at ≡ None → closed s start at ≡ T.bad unexpected_character start
   unfolding comment
   block-end start e = rw (codes_off s at e)
 
@@ -148,31 +147,31 @@ module _ (s : List ℕ) (at : ℕ) where
   block-close start m n =
       rw (m.chars, n.chars, comment_yes 0x2A (0x2F ∷ chars_at s (at + 1 + 1)) refl refl, ascii-wide 0x2A (omega arith), ascii-wide 0x2F (omega arith))
 
-  pub block-other : (start : ℕ) {c n : ℕ} → decode_at s at ≡ Scalar c n → (c ≡ 0x2A → ⊥) → closed s start at ≡ closed s start (at + n)
+  pub block-other : (start : ℕ) {c n : ℕ} → decode_at s at ≡ Some (c, n) → (c ≡ 0x2A → ⊥) → closed s start at ≡ closed s start (at + n)
   block-other start e w = block_on start e (rw (ne_eqb _ 0x2A w))
 
-  pub block_star : (start : ℕ) {c n : ℕ} → decode_at s at ≡ Scalar c n → (peek_at s (at + n) ≡ 0x2F → ⊥) → closed s start at ≡ closed s start (at + n)
+  pub block_star : (start : ℕ) {c n : ℕ} → decode_at s at ≡ Some (c, n) → (peek_at s (at + n) ≡ 0x2F → ⊥) → closed s start at ≡ closed s start (at + n)
   unfolding peek_at
   block_star start {c} e w = block_on start e (rw (ne_eqb _ 0x2F w) (and-false (is "*" c)))
 
   pub shut_inside : peek_at s at ≡ 0x2F → at + 1 ≤ length s
   shut_inside v = (next-head s at 0x2F (omega arith) (omega arith) v).inside
 
-  pub block_shut : (start : ℕ) {c n : ℕ} → decode_at s at ≡ Scalar c n → c ≡ 0x2A → peek_at s (at + n) ≡ 0x2F → closed s start at ≡ tokens_at s (at + n + 1)
+  pub block_shut : (start : ℕ) {c n : ℕ} → decode_at s at ≡ Some (c, n) → c ≡ 0x2A → peek_at s (at + n) ≡ 0x2F → closed s start at ≡ tokens_at s (at + n + 1)
   block_shut start {c} {n} e w v =
       let k : n ≡ 1 = (stands_at s at e).wide ∙ ap width w ∙ ascii-wide 0x2A (omega arith) in
       let m = subst (Next s at) w (next_of s at e (omega arith)) in
       rw k (block-close start m (next-head s (at + 1) 0x2F (omega arith) (omega arith) (rw k at v)))
 
-  settled : {c n : ℕ} → decode_at s at ≡ Scalar c n → is_ecmascript_whitespace c ≡ false → (is "/" c && is "/" (head (chars_at s (at + n)))) ≡ false
+  settled : {c n : ℕ} → decode_at s at ≡ Some (c, n) → is_ecmascript_whitespace c ≡ false → (is "/" c && is "/" (head (chars_at s (at + n)))) ≡ false
       → (is "/" c && is "*" (head (chars_at s (at + n)))) ≡ false → Settled (chars_at s at)
   unfolding piece
   settled e w u v = rw (codes-on s at e) (rw (w, u, v))
 
-  pub settled-other : {c n : ℕ} → decode_at s at ≡ Scalar c n → is_ecmascript_whitespace c ≡ false → (peek_at s at ≡ 0x2F → ⊥) → Settled (chars_at s at)
+  pub settled-other : {c n : ℕ} → decode_at s at ≡ Some (c, n) → is_ecmascript_whitespace c ≡ false → (peek_at s at ≡ 0x2F → ⊥) → Settled (chars_at s at)
   settled-other {c} e w u = let f = ne_eqb c 0x2F (λ q. u (peek_on s at e ∙ q)) in settled e w (rw f) (rw f)
 
-  pub settled_slash : {c n : ℕ} → decode_at s at ≡ Scalar c n → is_ecmascript_whitespace c ≡ false → peek_at s at ≡ 0x2F
+  pub settled_slash : {c n : ℕ} → decode_at s at ≡ Some (c, n) → is_ecmascript_whitespace c ≡ false → peek_at s at ≡ 0x2F
       → (peek_at s (at + 1) ≡ 0x2F → ⊥) → (peek_at s (at + 1) ≡ 0x2A → ⊥) → Settled (chars_at s at)
   unfolding peek_at
   settled_slash {c} {n} e w h u v =
@@ -180,7 +179,7 @@ module _ (s : List ℕ) (at : ℕ) where
       let k : n ≡ 1 = (stands_at s at e).wide ∙ ap width q ∙ ascii-wide 0x2F (omega arith) in
       settled e w (rw (k, ne_eqb _ 0x2F u) (and-false (is "/" c))) (rw (k, ne_eqb _ 0x2A v) (and-false (is "/" c)))
 
-  pub settled-ill : decode_at s at ≡ Ill → Settled (chars_at s at)
+  pub settled-ill : decode_at s at ≡ None → Settled (chars_at s at)
   settled-ill e = rw (codes_off s at e) tt
 
 -- the end of a string or a set
@@ -190,29 +189,29 @@ found-more at c cs none = refl
 found-more at c cs (some k) = refl
 
 module _ (stop : ℕ → Bool) (q : ℕ) (s : List ℕ) (at : ℕ) where
-  pub end-ill : (x : Bool) → decode_at s at ≡ Ill → end_of stop q s at x ≡ Missing
+  pub end-ill : (x : Bool) → decode_at s at ≡ None → end_of stop q s at x ≡ None
   unfolding body
   end-ill true e = rw (codes_off s at e)
   end-ill false e = rw (codes_off s at e)
 
-  pub end-found : {c n : ℕ} → decode_at s at ≡ Scalar c n → c ≡ q → end_of stop q s at false ≡ At at (at + n)
+  pub end-found : {c n : ℕ} → decode_at s at ≡ Some (c, n) → c ≡ q → end_of stop q s at false ≡ Some (at, at + n)
   unfolding past
   end-found {c} {n} e w = rw (codes-on s at e, body_end c (chars_at s (at + n)) stop q (eq-eqb c q w), (stands_at s at e).wide)
 
-  end_step : (x y : Bool) {c n : ℕ} → decode_at s at ≡ Scalar c n → body stop q x (c ∷ chars_at s (at + n)) ≡ more (body stop q y (chars_at s (at + n)))
+  end_step : (x y : Bool) {c n : ℕ} → decode_at s at ≡ Some (c, n) → body stop q x (c ∷ chars_at s (at + n)) ≡ more (body stop q y (chars_at s (at + n)))
       → end_of stop q s at x ≡ end_of stop q s (at + n) y
   end_step x y {c} {n} e w =
       rw (codes-on s at e, w) (found-more at c (chars_at s (at + n)) (body stop q y (chars_at s (at + n)))
       ∙ ap (λ (m : ℕ). found_at (at + m) (chars_at s (at + n)) (body stop q y (chars_at s (at + n)))) (sym (stands_at s at e).wide))
 
-  pub end_on : {c n : ℕ} → decode_at s at ≡ Scalar c n → (c ≡ q → ⊥) → (c ≡ 0x5C → ⊥) → end_of stop q s at false ≡ end_of stop q s (at + n) false
+  pub end_on : {c n : ℕ} → decode_at s at ≡ Some (c, n) → (c ≡ q → ⊥) → (c ≡ 0x5C → ⊥) → end_of stop q s at false ≡ end_of stop q s (at + n) false
   end_on {c} {n} e w v = end_step false false e (body-on c (chars_at s (at + n)) stop q false (ne_eqb c q w) (ne_eqb c 0x5C v))
 
-  pub end-escape : {c n : ℕ} → decode_at s at ≡ Scalar c n → (c ≡ q → ⊥) → c ≡ 0x5C → end_of stop q s at false ≡ end_of stop q s (at + n) true
+  pub end-escape : {c n : ℕ} → decode_at s at ≡ Some (c, n) → (c ≡ q → ⊥) → c ≡ 0x5C → end_of stop q s at false ≡ end_of stop q s (at + n) true
   end-escape {c} {n} e w v = end_step false true e (body-on c (chars_at s (at + n)) stop q true (ne_eqb c q w) (eq-eqb c 0x5C v))
 
-  pub end-escaped : {c n : ℕ} → decode_at s at ≡ Scalar c n → stop c ≡ false → end_of stop q s at true ≡ end_of stop q s (at + n) false
+  pub end-escaped : {c n : ℕ} → decode_at s at ≡ Some (c, n) → stop c ≡ false → end_of stop q s at true ≡ end_of stop q s (at + n) false
   end-escaped {c} {n} e w = end_step true false e (escaped-on c (chars_at s (at + n)) stop q w)
 
-  pub end_stop : {c n : ℕ} → decode_at s at ≡ Scalar c n → stop c ≡ true → end_of stop q s at true ≡ Missing
+  pub end_stop : {c n : ℕ} → decode_at s at ≡ Some (c, n) → stop c ≡ true → end_of stop q s at true ≡ None
   end_stop {c} {n} e w = rw (codes-on s at e, escaped-end c (chars_at s (at + n)) stop q w)

@@ -1,9 +1,12 @@
 -- What the lexer's answers say of a text of bytes.
 -- Assumes nothing.
-use Rattle.std.specs.Prelude.{ℕ, zero, suc, ◌+◌, ◌-◌, ◌*◌, ◌≤◌, ◌<◌, ◌≡◌, Bool, true, false, ◌&&◌, List, [], ◌∷◌, ◌++◌, leb, ltb, length, get_or, take, drop}
+use Rattle.std.specs.Prelude.{Some, None, Result, Ok, Err, ℕ, zero, suc, ◌+◌, ◌-◌, ◌*◌, ◌≤◌, ◌<◌, ◌≡◌, Bool, true, false, ◌&&◌, List, [], ◌∷◌, ◌++◌, leb, ltb, length, get_or, take, drop}
+use Rattle.std.specs.Prelude as Std
 use Rattle.std.proofs.Math.Option.{Option, none, some}
-use Rattle.basics.specs.Basics.{if◌then◌otherwise◌, letters, is, among, spells, every}
-use Rattle.error.specs.Causes.{unexpected_character, unterminated_string, at_without_name, unterminated_set, reversed_span, overlapping_span}
+use Rattle.basics.specs.Basics.{if◌then◌otherwise◌, letters, is, among, every}
+use Rattle.error.specs.Promise.{cause_number}
+use Rattle.error.specs.declared.Cause.{Cause}
+use Rattle.error.specs.declared.Stop.{Stop}
 use Rattle.characters.specs.Utf8.{codes, encode_all, width, is_scalar}
 use Rattle.characters.specs.Places.{chars_at, peek_at, cut, past}
 use Rattle.characters.specs.Spans.{Span, ◌upto◌}
@@ -12,30 +15,16 @@ use Rattle.lexer.specs.Tokens as T
 use Rattle.lexer.specs.Escapes.{Escape, fixed, until_brace, braced, atoms}
 use Rattle.lexer.specs.Escapes as E
 use Rattle.lexer.specs.Sets.{written, overlaps_one, reversed, fault_from, fault, insert, sorted}
+use Rattle.lexer.specs.declared.Part.{Part}
 use Rattle.lexer.specs.declared.Kind.{Kind}
 use Rattle.lexer.specs.declared.Kind.TheVariants.{String, At, Set, Punctuation, Identifier}
-use Rattle.lexer.specs.declared.Cause.{Cause}
-use Rattle.lexer.specs.declared.Cause.TheVariants.{UnexpectedCharacter, UnterminatedString, AtWithoutName, UnterminatedSet}
-use Rattle.lexer.specs.declared.Lexed.{Lexed}
-use Rattle.lexer.specs.declared.Lexed.TheVariants.{Token, Eof, Refused}
-use Rattle.lexer.specs.declared.Trivia.{Trivia}
-use Rattle.lexer.specs.declared.Trivia.TheVariants.{Clear, Unclosed}
-use Rattle.lexer.specs.declared.Found.{Found}
-use Rattle.lexer.specs.declared.Found.TheVariants as F
-use Rattle.lexer.specs.declared.escapes.Digit.{Digit}
-use Rattle.lexer.specs.declared.escapes.Digit.TheVariants.{Is, No}
-use Rattle.lexer.specs.declared.escapes.Hex.{Hex}
-use Rattle.lexer.specs.declared.escapes.Hex.TheVariants.{Code, Not}
+use Rattle.lexer.specs.declared.Token.{Token}
+use Rattle.lexer.specs.declared.Token.TheVariants.{Of, Eof}
+use Rattle.lexer.specs.declared.escapes.Taken.{Taken}
 use Rattle.lexer.specs.declared.escapes.Atom.{Atom}
-use Rattle.lexer.specs.declared.escapes.Atom.TheVariants.{One, End}
-use Rattle.lexer.specs.declared.sets.Range.{Range}
-use Rattle.lexer.specs.declared.sets.Range.TheVariants as R
+use Rattle.lexer.specs.declared.sets.Span as Read
 use Rattle.lexer.specs.declared.sets.Filled.{Filled}
-use Rattle.lexer.specs.declared.sets.Filled.TheVariants as B
-use Rattle.lexer.specs.declared.sets.Ranges.{Ranges}
-use Rattle.lexer.specs.declared.sets.Ranges.TheVariants.{Sound, Reversed, Overlapping}
-use Rattle.lexer.specs.declared.words.Class.{Class}
-use Rattle.lexer.specs.declared.words.Class.TheVariants as C
+use Rattle.lexer.specs.declared.sets.Filled.TheVariants.{Full, All}
 
 -- ------------------------------------------------------------------ tokens
 
@@ -43,61 +32,54 @@ use Rattle.lexer.specs.declared.words.Class.TheVariants as C
 unfoldable pub tokens_at : List ℕ → ℕ → Tokens ℕ
 tokens_at s at = tokens_from (chars_at s at) 0 at
 
--- the number of a cause
-abbrev pub number : Cause → ℕ
-number UnexpectedCharacter = unexpected_character
-number UnterminatedString = unterminated_string
-number AtWithoutName = at_without_name
-number UnterminatedSet = unterminated_set
-
 -- the characters of a part of the text
-abbrev pub part_of : List ℕ → ℕ → ℕ → List ℕ
-part_of s a e = codes (cut s a e)
+abbrev pub part_of : List ℕ → Part → List ℕ
+part_of s p = codes (cut s p.from p.to)
 
 -- the kind of a token whose text stands in the source
 abbrev pub kind_of : List ℕ → Kind → T.Kind
-kind_of s (String q a e) = T.string (part_of s a e)
-kind_of s (At a e) = T.at (part_of s a e)
-kind_of s (Set i a e) = T.set i (part_of s a e)
+kind_of s (String q p) = T.string (part_of s p)
+kind_of s (At p) = T.at (part_of s p)
+kind_of s (Set i p) = T.set i (part_of s p)
 kind_of s (Punctuation c) = T.mark c
-kind_of s (Identifier a e) = T.name (part_of s a e)
+kind_of s (Identifier p) = T.name (part_of s p)
 
 -- the tokens from a place on are this one and those from its end on, or end, or are refused
-abbrev pub answer : List ℕ → Lexed → Tokens ℕ
-answer s (Token k start end) = T.token (kind_of s k) start (tokens_at s end)
-answer s (Eof at) = T.eof at
-answer s (Refused c at) = T.bad (number c) at
+abbrev pub answer : List ℕ → Result Token Stop → Tokens ℕ
+answer s (Ok (Of k start end)) = T.token (kind_of s k) start (tokens_at s end)
+answer s (Ok (Eof at)) = T.eof at
+answer s (Err stop) = T.bad (cause_number stop.cause) stop.place
 
 -- a part lies within the text, and its bytes are those of its characters
-pub record Part (s : List ℕ) (a e : ℕ) : Type 0 where
-  pub forth : a ≤ e
-  pub inside : e ≤ length s
-  pub bytes : encode_all (part_of s a e) ≡ cut s a e
+pub record IsPart (s : List ℕ) (p : Part) : Type 0 where
+  pub forth : p.from ≤ p.to
+  pub inside : p.to ≤ length s
+  pub bytes : encode_all (part_of s p) ≡ cut s p.from p.to
 
 -- the part of a token that starts at a place; a string's quote is the character that stands there
 abbrev pub Parted : List ℕ → ℕ → Kind → Type 0
-Parted s start (String q a e) = (peek_at s start ≡ q) × Part s a e
-Parted s start (At a e) = Part s a e
-Parted s start (Set i a e) = Part s a e
+Parted s start (String q p) = (peek_at s start ≡ q) × IsPart s p
+Parted s start (At p) = IsPart s p
+Parted s start (Set i p) = IsPart s p
 Parted s start (Punctuation c) = Unit {0}
-Parted s start (Identifier a e) = Part s a e
+Parted s start (Identifier p) = IsPart s p
 
 -- it lies between the token's start and end
 abbrev pub Inside : (start end : ℕ) → Kind → Type 0
-Inside start end (String q a e) = (start ≤ a) × (e ≤ end)
-Inside start end (At a e) = (start ≤ a) × (e ≤ end)
-Inside start end (Set i a e) = (start ≤ a) × (e ≤ end)
+Inside start end (String q p) = (start ≤ p.from) × (p.to ≤ end)
+Inside start end (At p) = (start ≤ p.from) × (p.to ≤ end)
+Inside start end (Set i p) = (start ≤ p.from) × (p.to ≤ end)
 Inside start end (Punctuation c) = Unit {0}
-Inside start end (Identifier a e) = (start ≤ a) × (e ≤ end)
+Inside start end (Identifier p) = (start ≤ p.from) × (p.to ≤ end)
 
 -- a token lies in the text, from a place on, and its part in it
-abbrev pub Placed : List ℕ → ℕ → Lexed → Type 0
-Placed s from (Token k start end) = (from ≤ start) × (start < end) × (end ≤ length s) × Parted s start k × Inside start end k
-Placed s from (Eof at) = Unit {0}
-Placed s from (Refused c at) = Unit {0}
+abbrev pub Placed : List ℕ → ℕ → Result Token Stop → Type 0
+Placed s from (Ok (Of k start end)) = (from ≤ start) × (start < end) × (end ≤ length s) × Parted s start k × Inside start end k
+Placed s from (Ok (Eof at)) = Unit {0}
+Placed s from (Err stop) = Unit {0}
 
 -- what the answer from a place on says
-pub record Reads (s : List ℕ) (from : ℕ) (r : Lexed) : Type 0 where
+pub record Reads (s : List ℕ) (from : ℕ) (r : Result Token Stop) : Type 0 where
   pub tokens : tokens_at s from ≡ answer s r
   pub placed : Placed s from r
 
@@ -109,73 +91,73 @@ Settled [] = Unit {0}
 Settled (c ∷ cs) = piece c cs ≡ solid c cs
 
 -- what skipping trivia from a place on answers: the place of a token with the same tokens, or a comment that is not closed
-abbrev pub Skipped : List ℕ → ℕ → Trivia → Type 0
-Skipped s from (Clear at) = (from ≤ at) × (tokens_at s from ≡ tokens_at s at) × Settled (chars_at s at)
-Skipped s from (Unclosed p) = tokens_at s from ≡ T.bad unexpected_character p
+abbrev pub Skipped : List ℕ → ℕ → Result ℕ Stop → Type 0
+Skipped s from (Ok at) = (from ≤ at) × (tokens_at s from ≡ tokens_at s at) × Settled (chars_at s at)
+Skipped s from (Err stop) = tokens_at s from ≡ T.bad (cause_number stop.cause) stop.place
 
 -- a set begins with c, with the character at a place after it
 unfoldable pub opens_set : List ℕ → ℕ → ℕ → Bool
 opens_set s c next = among (letters "$!") c && is "[" (peek_at s next)
 
 -- the places before and after the character that k others stand before
-abbrev pub found_at : ℕ → List ℕ → Option ℕ → Found
-found_at at cs none = F.Missing
-found_at at cs (some k) = F.At (past at k cs) (past at (suc k) cs)
+abbrev pub found_at : ℕ → List ℕ → Option ℕ → Std.Option (ℕ × ℕ)
+found_at at cs none = None
+found_at at cs (some k) = Some (past at k cs, past at (suc k) cs)
 
 -- where a body ends that begins, or goes on, at a place
-abbrev pub end_of : (ℕ → Bool) → ℕ → List ℕ → ℕ → Bool → Found
+abbrev pub end_of : (ℕ → Bool) → ℕ → List ℕ → ℕ → Bool → Std.Option (ℕ × ℕ)
 end_of stops q s at escaped = found_at at (chars_at s at) (body stops q escaped (chars_at s at))
 
 -- the answer for a piece at a place whose first character has n bytes
-pub record Lexes (s : List ℕ) (at n : ℕ) (p : Piece) (r : Lexed) : Type 0 where
+pub record Lexes (s : List ℕ) (at n : ℕ) (p : Piece) (r : Result Token Stop) : Type 0 where
   pub tokens : lay p at (λ k. tokens_from (chars_at s (at + n)) k (at + n)) ≡ answer s r
   pub placed : Placed s at r
 
 -- ------------------------------------------------------------------ escapes
 
 -- a digit's value as the code has it
-abbrev pub digit_of : Option ℕ → Digit
-digit_of none = No
-digit_of (some d) = Is d
+abbrev pub digit_of : Option ℕ → Std.Option ℕ
+digit_of none = None
+digit_of (some d) = Some d
 
 -- an escape in characters from a place on, by its end
-abbrev pub hex_at : ℕ → List ℕ → Option Escape → Hex
-hex_at at cs none = Not
-hex_at at cs (some e) = Code e.char (past at e.taken cs)
+abbrev pub hex_at : ℕ → List ℕ → Option Escape → Std.Option Taken
+hex_at at cs none = None
+hex_at at cs (some e) = Some (record { code = e.char; end = past at e.taken cs })
 
 -- the escape in braces at a place
-unfoldable pub braced_at : List ℕ → ℕ → Hex
+unfoldable pub braced_at : List ℕ → ℕ → Std.Option Taken
 braced_at s at = hex_at at (chars_at s at) (braced (chars_at s at))
 
 -- the digits up to a `}` at a place, after those of value v
-unfoldable pub until_at : ℕ → List ℕ → ℕ → Hex
+unfoldable pub until_at : ℕ → List ℕ → ℕ → Std.Option Taken
 until_at v s at = hex_at at (chars_at s at) (until_brace v (chars_at s at))
 
 -- k digits at a place, after those of value v
-unfoldable pub fixed_at : ℕ → ℕ → List ℕ → ℕ → Hex
+unfoldable pub fixed_at : ℕ → ℕ → List ℕ → ℕ → Std.Option Taken
 fixed_at k v s at = hex_at at (chars_at s at) (fixed k v (chars_at s at))
 
 -- the code and the end of an escape
-pub record Takes (s : List ℕ) (at : ℕ) (e : Escape) (code end : ℕ) : Type 0 where
-  pub char : code ≡ e.char
-  pub ends : end ≡ past at e.taken (chars_at s at)
+pub record Takes (s : List ℕ) (at : ℕ) (e : Escape) (t : Taken) : Type 0 where
+  pub char : t.code ≡ e.char
+  pub ends : t.end ≡ past at e.taken (chars_at s at)
 
 -- the atoms from a place on
 unfoldable pub atoms_at : List ℕ → ℕ → List E.Atom
 atoms_at s at = atoms (chars_at s at)
 
 -- they are this one and those from its end on, or none
-abbrev pub atom_answer : List ℕ → Atom → List E.Atom
-atom_answer s (One c x end) = record { char = c; escaped = x } ∷ atoms_at s end
-atom_answer s End = []
+abbrev pub atom_answer : List ℕ → Std.Option Atom → List E.Atom
+atom_answer s (Some a) = record { char = a.code; escaped = a.escaped } ∷ atoms_at s a.end
+atom_answer s None = []
 
 -- an atom is a character, and takes no fewer bytes than that
-abbrev pub AtomPlaced : List ℕ → ℕ → Atom → Type 0
-AtomPlaced s at (One c x end) = (at + width c ≤ end) × (end ≤ length s) × (is_scalar c ≡ true)
-AtomPlaced s at End = Unit {0}
+abbrev pub AtomPlaced : List ℕ → ℕ → Std.Option Atom → Type 0
+AtomPlaced s at (Some a) = (at + width a.code ≤ a.end) × (a.end ≤ length s) × (is_scalar a.code ≡ true)
+AtomPlaced s at None = Unit {0}
 
 -- what the answer for one atom says
-pub record ReadsAtom (s : List ℕ) (at : ℕ) (r : Atom) : Type 0 where
+pub record ReadsAtom (s : List ℕ) (at : ℕ) (r : Std.Option Atom) : Type 0 where
   pub atoms : atoms_at s at ≡ atom_answer s r
   pub placed : AtomPlaced s at r
 
@@ -186,17 +168,17 @@ unfoldable pub spans_at : List ℕ → ℕ → List Span
 spans_at s at = written (atoms_at s at) 0
 
 -- they are this one and those from its end on, or none
-abbrev pub range_answer : List ℕ → Range → List Span
-range_answer s (R.One first past end) = first upto past ∷ spans_at s end
-range_answer s R.End = []
+abbrev pub range_answer : List ℕ → Std.Option (Read.Span × ℕ) → List Span
+range_answer s (Some (span, end)) = span.first upto span.past ∷ spans_at s end
+range_answer s None = []
 
 -- a span takes a byte at least, and lies in the text
-abbrev pub RangePlaced : List ℕ → ℕ → Range → Type 0
-RangePlaced s at (R.One first past end) = (at < end) × (end ≤ length s)
-RangePlaced s at R.End = Unit {0}
+abbrev pub RangePlaced : List ℕ → ℕ → Std.Option (Read.Span × ℕ) → Type 0
+RangePlaced s at (Some (span, end)) = (at < end) × (end ≤ length s)
+RangePlaced s at None = Unit {0}
 
 -- what the answer for one span says
-pub record ReadsRange (s : List ℕ) (at : ℕ) (r : Range) : Type 0 where
+pub record ReadsRange (s : List ℕ) (at : ℕ) (r : Std.Option (Read.Span × ℕ)) : Type 0 where
   pub spans : spans_at s at ≡ range_answer s r
   pub placed : RangePlaced s at r
 
@@ -226,10 +208,6 @@ pub record Before (ws : List ℕ) (n x k : ℕ) : Type 0 where
   pub below : (i : ℕ) → i < k → get_or ws (2 * i) 0 ≤ x
   pub above : (i : ℕ) → k ≤ i → i < n → x < get_or ws (2 * i) 0
 
--- the words from `from` to `to` two places further on
-unfoldable pub opened : (from to : ℕ) → List ℕ → List ℕ
-opened from to ws = take (from + 2) ws ++ (take (to - from) (drop from ws) ++ drop (to + 2) ws)
-
 -- a span put among n others, unless it shares a code with one of them
 pub record Pushed (ws : List ℕ) (n : ℕ) (s : Span) (after : List ℕ) (met : Bool) : Type 0 where
   pub meets : met ≡ overlaps_one s (spans_in n ws)
@@ -238,15 +216,14 @@ pub record Pushed (ws : List ℕ) (n : ℕ) (s : Span) (after : List ℕ) (met :
   pub held : met ≡ false → Held after (n + 1)
 
 -- spans from a place on put into words, up to the end, to the first that is reversed or met, or while there is room
-abbrev pub Fills : List ℕ → ℕ → List ℕ → Filled → Type 0
-Fills s from ws (B.Full n end) =
+abbrev pub Fills : List ℕ → ℕ → List ℕ → Result Filled Cause → Type 0
+Fills s from ws (Ok (Full n end)) =
     (from < end) × (from + n ≤ end) × (end ≤ length s) × Held ws n × (length (spans_at s from) ≡ n + length (spans_at s end))
     × (fault (spans_at s from) ≡ fault_from (spans_in n ws) (spans_at s end))
-Fills s from ws (B.All n) =
+Fills s from ws (Ok (All n)) =
     (from + n ≤ length s) × (length (spans_at s from) ≡ n) × (fault (spans_at s from) ≡ none) × (2 * n ≤ length ws)
     × (spans_in n ws ≡ sorted (spans_at s from))
-Fills s from ws B.Reversed = fault (spans_at s from) ≡ some reversed_span
-Fills s from ws B.Overlapping = fault (spans_at s from) ≡ some overlapping_span
+Fills s from ws (Err c) = fault (spans_at s from) ≡ some (cause_number c)
 
 -- one of the spans up to the first reversed one shares a code with one of those before
 unfoldable pub later : (before : List Span) → List Span → Bool
@@ -254,19 +231,17 @@ later before [] = false
 later before (s ∷ ss) = if reversed s then false otherwise if overlaps_one s before then true otherwise later before ss
 
 -- what stops a set, by the answer for it
-abbrev pub stops : Ranges → Option ℕ
-stops (Sound n) = none
-stops Reversed = some reversed_span
-stops Overlapping = some overlapping_span
+abbrev pub stops : Result ℕ Cause → Option ℕ
+stops (Ok n) = none
+stops (Err c) = some (cause_number c)
 
 -- a set that nothing stops is answered with the number of its spans
-abbrev pub Counted : List Span → Ranges → Type 0
-Counted ss (Sound n) = n ≡ length ss
-Counted ss Reversed = Unit {0}
-Counted ss Overlapping = Unit {0}
+abbrev pub Counted : List Span → Result ℕ Cause → Type 0
+Counted ss (Ok n) = n ≡ length ss
+Counted ss (Err c) = Unit {0}
 
 -- what the answer for a whole set says
-pub record Checks (ss : List Span) (r : Ranges) : Type 0 where
+pub record Checks (ss : List Span) (r : Result ℕ Cause) : Type 0 where
   pub cause : stops r ≡ fault ss
   pub count : Counted ss r
 
@@ -281,42 +256,20 @@ stored ss out = stored_by (fault ss) ss out
 
 -- the first n spans of a body, up to a place, stand in a block, and there are more
 abbrev pub FirstBlock : (s block : List ℕ) → (n end : ℕ) → Type 0
-FirstBlock s block n end = Fills s 0 block (B.Full n end)
+FirstBlock s block n end = Fills s 0 block (Ok (Full n end))
 
 -- the first m words laid over others, where they fit
 unfoldable pub copied : ℕ → List ℕ → List ℕ → List ℕ
 copied m ws out = if leb m (length out) then take m ws ++ drop m out otherwise out
 
 -- a set whose spans fit one block is done with; of any other nothing is stored
-abbrev pub Parses : (s out after block : List ℕ) → Filled → Type 0
-Parses s out after block (B.Full n end) = (after ≡ out) × FirstBlock s block n end
-Parses s out after block (B.All n) = Checks (spans_at s 0) (Sound n) × (after ≡ stored (spans_at s 0) out)
-Parses s out after block B.Reversed = Checks (spans_at s 0) Reversed × (after ≡ stored (spans_at s 0) out)
-Parses s out after block B.Overlapping = Checks (spans_at s 0) Overlapping × (after ≡ stored (spans_at s 0) out)
+abbrev pub Parses : (s out after block : List ℕ) → Result Filled Cause → Type 0
+Parses s out after block (Ok (Full n end)) = (after ≡ out) × FirstBlock s block n end
+Parses s out after block (Ok (All n)) = Checks (spans_at s 0) (Ok n) × (after ≡ stored (spans_at s 0) out)
+Parses s out after block (Err c) = Checks (spans_at s 0) (Err c) × (after ≡ stored (spans_at s 0) out)
 
 -- ------------------------------------------------------------------ words
 
 -- all ASCII
 abbrev pub is_plain : List ℕ → Bool
 is_plain w = every (λ c. ltb c 0x80) w
-
--- the class that a text names
-unfoldable pub class_named : List ℕ → Class
-class_named t =
-    if spells "asciiLetter" t then C.AsciiLetter
-    otherwise if spells "asciiLowercase" t then C.AsciiLowercase
-    otherwise if spells "asciiUppercase" t then C.AsciiUppercase
-    otherwise if spells "digit" t then C.Digit
-    otherwise if spells "whitespace" t then C.Whitespace
-    otherwise if spells "eof" t then C.Eof
-    otherwise C.Missing
-
--- a class by its value
-abbrev pub class_value : Class → Option ℕ
-class_value C.AsciiLetter = some 0
-class_value C.AsciiLowercase = some 1
-class_value C.AsciiUppercase = some 2
-class_value C.Digit = some 3
-class_value C.Whitespace = some 4
-class_value C.Eof = some 5
-class_value C.Missing = none

@@ -6,12 +6,11 @@ ghost use Rattle.characters.specs.Utf8.{codes, encode_all};
 ghost use Rattle.characters.specs.Promise.{written_all};
 ghost use Rattle.lexer.specs.Escapes.{decode_string};
 ghost use Rattle.lexer.specs.Sets.{spans};
-ghost use Rattle.lexer.specs.Promise.{stored, number};
-ghost use Rattle.lexer_c.specs.Words.{Answers, RangesSay};
+ghost use Rattle.lexer.specs.Promise.{stored};
+ghost use Rattle.lexer_c.specs.Words.{Answers, RangesSay, token_words};
 
-use answers::put;
-use lexer::sets::Ranges;
-use lexer::{Cause, Kind, Lexed};
+use error::Cause;
+use lexer::{Kind, Token};
 
 // The first token from a place on, as six words: what it is (1 string, 2 at, 3 set, 4 punctuation, 5 identifier, 6 end, 7 refused),
 // its start and end, its part's start and end, and its quote, inversion or character. A refusal has its cause for the end.
@@ -19,43 +18,30 @@ use lexer::{Cause, Kind, Lexed};
 pub extern "C" fn lexer_next(source: &[u8], from: usize, out: &mut [u64])
     ensures { Answers source.now from out.old out.new }
 {
-    match lexer::next(source, from) {
-        Lexed::Eof(at) => put(out, 6, at as u64, 0, 0, 0, 0),
-        Lexed::Refused(cause, at) => put(out, 7, at as u64, cause_number(cause), 0, 0, 0),
-        Lexed::Token(kind, start, end) => match kind {
-            Kind::String(q, a, e) => put(
-                out,
-                1,
-                start as u64,
-                end as u64,
-                a as u64,
-                e as u64,
-                q as u64,
-            ),
-            Kind::At(a, e) => put(out, 2, start as u64, end as u64, a as u64, e as u64, 0),
-            Kind::Set(inverted, a, e) => put(
-                out,
-                3,
-                start as u64,
-                end as u64,
-                a as u64,
-                e as u64,
-                inverted as u64,
-            ),
-            Kind::Punctuation(c) => put(out, 4, start as u64, end as u64, 0, 0, c as u64),
-            Kind::Identifier(a, e) => put(out, 5, start as u64, end as u64, a as u64, e as u64, 0),
-        },
-    }
+    let words = match lexer::next(source, from) {
+        Ok(Token::Of(kind, start, end)) => token_words(kind, start as u64, end as u64),
+        Ok(Token::Eof(at)) => [6, at as u64, 0, 0, 0, 0],
+        Err(stop) => [7, stop.place as u64, stop.cause.number() as u64, 0, 0, 0],
+    };
+    answers::put(out, words);
 }
 
-fn cause_number(cause: Cause) -> u64
-    ensures { result ≡ number cause }
+fn token_words(kind: Kind, start: u64, end: u64) -> [u64; 6]
+    ensures { result ≡ token_words kind start end }
 {
-    match cause {
-        Cause::UnexpectedCharacter => 4,
-        Cause::UnterminatedString => 5,
-        Cause::AtWithoutName => 6,
-        Cause::UnterminatedSet => 7,
+    match kind {
+        Kind::String(q, part) => [1, start, end, part.from as u64, part.to as u64, q as u64],
+        Kind::At(part) => [2, start, end, part.from as u64, part.to as u64, 0],
+        Kind::Set(inverted, part) => [
+            3,
+            start,
+            end,
+            part.from as u64,
+            part.to as u64,
+            inverted as u64,
+        ],
+        Kind::Punctuation(c) => [4, start, end, 0, 0, c as u64],
+        Kind::Identifier(part) => [5, start, end, part.from as u64, part.to as u64, 0],
     }
 }
 
@@ -72,8 +58,8 @@ pub extern "C" fn lexer_parse_set_ranges(body: &[u8], out: &mut [u32]) -> u64
     ensures { RangesSay (spans (codes body.now)) result × (out.new ≡ stored (spans (codes body.now)) out.old) }
 {
     match lexer::sets::parse_set_ranges(body, out) {
-        Ranges::Sound(n) => n as u64,
-        Ranges::Reversed => 0xFFFFFFFFFFFFFFFE,
-        Ranges::Overlapping => 0xFFFFFFFFFFFFFFFF,
+        Ok(n) => n as u64,
+        Err(Cause::ReversedSpan) => 0xFFFFFFFFFFFFFFFE,
+        Err(_) => 0xFFFFFFFFFFFFFFFF,
     }
 }

@@ -1,6 +1,6 @@
 -- What is printed of an input of which no more than 65,536 bytes are read.
 -- Assumes nothing.
-use Rattle.std.proofs.Common.{◌≡◌, ℕ, ◌≤◌, ◌<◌, List, [], ◌++◌, Option, None, Some, Result, Ok, Err, IfSome, OnOk, MatchResult, arith, length, take, replicate, refl, sym, ap, ◌∙◌, append-nil, length-append, length-take-le}
+use Rattle.std.proofs.Common.{◌≡◌, ℕ, ◌≤◌, ◌<◌, List, [], ◌++◌, Option, None, Some, Result, Ok, Err, IfSome, IfOk, OnOk, MatchResult, arith, length, take, replicate, refl, sym, ap, ◌∙◌, append-nil, length-append, length-take-le}
 use Rattle.std.proofs.lemmas.Bool.{cases_lt}
 use Rattle.std.proofs.Math.Logic.{inl, inr}
 use Rattle.std.specs.Io.KnownBytes.{Consumes, IsAtEnd, Appends}
@@ -10,7 +10,7 @@ use Rattle.grammar.specs.Reading.{longest}
 use Rattle.grammar.specs.Calls.{NormalAnswer, NormalOutcome, room_for, normal_by, normal}
 use Rattle.grammar.specs.Program.{refusal_line, printed_by, printed}
 use Rattle.calls.proofs.ReadLaws.{reading_long}
-use Rattle.printing.specs.Promise.{Within, Fills}
+use Rattle.printing.specs.Promise.{Fills}
 
 -- ------------------------------------------------------------------ a text that is too long
 
@@ -48,7 +48,7 @@ reads-whole left buf n l h e = elim (cases_lt n (length buf)) [
 ]
 
 -- what was read is printed, so all of the input is
-pub prints-whole : {E : Type 0} (old new : Option (List ℕ)) (r : Result ℕ E) (n : ℕ) (buf : List ℕ) → r ≡ Ok n → Within r (length buf) → Fills old new r buf → length buf ≡ 65536
+pub prints-whole : {E : Type 0} (old new : Option (List ℕ)) (r : Result ℕ E) (n : ℕ) (buf : List ℕ) → r ≡ Ok n → IfOk r (λ m. m ≤ length buf) → Fills old new r buf → length buf ≡ 65536
     → (before after : Option (List ℕ)) → Appends before after (printed (take n buf)) → IfSome old (λ text. Appends before after (printed text))
 prints-whole None new r n buf e h f l before after a = tt
 prints-whole (Some xs) None r n buf e h f l before after a = absurd (rw e at f).0
@@ -61,7 +61,3 @@ prints-whole (Some xs) (Some ys) r n buf e h f l before after a =
 pub under-context : {T E F : Type 0} (s : Result T E) (t : Result T F) (P : Type 0) (Q : F → Type 0) → MatchResult t (λ x. s ≡ Ok x) Q → OnOk s P → OnOk t P
 under-context s (Ok x) P Q h p = rw h at p
 under-context s (Err e) P Q h p = tt
-
-pub on-ok : {T E : Type 0} (s : Result T E) (P Q : Type 0) → (P → Q) → OnOk s P → OnOk s Q
-on-ok (Ok x) P Q f p = f p
-on-ok (Err e) P Q f p = tt

@@ -1,35 +1,26 @@
 // Standard input to standard output: the normal text of a grammar file, or the line of its refusal.
 #![tactic(auto)]
 
-ghost use Rattle.std.specs.Prelude.{◌≤◌, ◌≡◌, length, take, replicate, IfSome, OnOk};
+ghost use Rattle.std.specs.Prelude.{IfSome, OnOk};
 ghost use Rattle.std.specs.Io.KnownBytes.{Appends};
 ghost use Rattle.grammar.specs.Program.{printed};
 
 use anyhow::{Context, Result};
-use calls::NormalAnswer;
+use printing::Line;
 use std::io;
 use std::io::{Read, Write};
 
-// What is printed for a text, over the front of the output; how many bytes it has.
-fn answer(text: &[u8], out: &mut [u8]) -> usize
-    requires { out.old ≡ replicate 65535 0 }
-    ensures within { result ≤ length out.new }
-    ensures prints { take result out.new ≡ printed text.now }
-{
-    let mut records = [0u32; 14000];
-    let mut texts = [0u8; 32768];
-    match calls::normal_text(text, &mut records, &mut texts, out) {
-        NormalAnswer::Written(n) => n,
-        NormalAnswer::Refused(refusal) => printing::put_refusal(refusal, out),
-    }
-}
-
+// What is printed for a text: its normal text, or the line of its refusal.
 fn print<W: Write>(text: &[u8], output: &mut W) -> io::Result<()>
     ensures { OnOk result (Appends (W.contents output.old) (W.contents output.new) (printed text.now)) }
 {
+    let mut records = [0u32; 14000];
+    let mut texts = [0u8; 32768];
     let mut out = [0u8; 65535];
-    let n = answer(text, &mut out);
-    output.write_all(&out[..n])
+    match calls::normal_text(text, &mut records, &mut texts, &mut out) {
+        Ok(n) => output.write_all(&out[..n]),
+        Err(refusal) => write!(output, "{}", Line(refusal)),
+    }
 }
 
 // One byte more than a text may have is read, so that a longer one is refused.

@@ -6,7 +6,7 @@ use Prim.Native.Nat.{ℕ, ◌+◌, ◌-◌, ◌≤◌, ◌<◌}
 use native.Mathlib.Omega.{arith}
 use native.Mathlib.Numerals.{add-one}
 use lib.ListN.{length, take, drop, set, get_or, length-append, length-set, length-drop, take-append-drop, drop_of_length-le}
-use lib.Seq.{length-take-le, set_split, take_all, take_at, drop_at, drop-drop, take-suc, get_or-drop}
+use lib.Seq.{length-take-le, set_split, take_all, take_at, drop_at, drop-drop, take-suc}
 use borrow.Rule.Slice.PartMut.{put_mid, same_len_mid}
 use Rattle.spelling.specs.Spelling.{quoted}
 use Rattle.spelling.proofs.Bytes.{quoted-append}
@@ -44,17 +44,9 @@ module _ {s t old mid new : List ℕ} {n m k : ℕ} where
 pub adds-first : {text old new : List ℕ} {n : ℕ} → Adds text old 0 new n → Wrote text old new n
 adds-first f = record { counts = omega (arith, f.counts); same = f.same; holds = f.holds }
 
--- one more byte of a stored text
-pub take_next : (i place : ℕ) (texts : List ℕ) → place + i < length texts
-    → take (i + 1) (drop place texts) ≡ take i (drop place texts) ++ (get_or texts (place + i) 0 ∷ [])
-take_next i place texts h =
-    let l : i < length (drop place texts) = simp length-drop (omega arith) in
-    rw add-one (take-suc (drop place texts) i 0 l ∙ rw get_or-drop)
-
--- and of a string's
-pub quoted-next : (i place : ℕ) (texts : List ℕ) → place + i < length texts
-    → quoted (take i (drop place texts)) ++ quoted (get_or texts (place + i) 0 ∷ []) ≡ quoted (take (i + 1) (drop place texts))
-quoted-next i place texts h = rw (take_next i place texts h) (sym (quoted-append (take i (drop place texts)) (get_or texts (place + i) 0 ∷ [])))
+-- one more byte of a string
+pub quoted-next : (i : ℕ) (s : List ℕ) → i < length s → quoted (take i s) ++ quoted (get_or s i 0 ∷ []) ≡ quoted (take (i + 1) s)
+quoted-next i s h = rw (add-one, take-suc s i 0 h) (sym (quoted-append (take i s) (get_or s i 0 ∷ [])))
 
 -- nothing at the start
 pub wrote_none : (old : List ℕ) → Wrote [] old old 0

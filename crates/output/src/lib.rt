@@ -4,7 +4,7 @@
 // whole of their part and add to it behind the n bytes that stand there; those at the end write at the front of what they are lent.
 #![tactic(auto)]
 
-ghost use Rattle.std.specs.Prelude.{◌≡◌, ◌||◌, [], ◌∷◌, ◌+◌, ◌-◌, ◌*◌, ◌≤◌, ◌<◌, ◌^◌, length, take, drop};
+ghost use Rattle.std.specs.Prelude.{◌≡◌, ◌||◌, [], ◌∷◌, ◌+◌, ◌≤◌, ◌<◌, ◌^◌, length};
 ghost use Rattle.basics.specs.Basics.{is};
 ghost use Rattle.characters.specs.Spans.{◌upto◌};
 ghost use Rattle.lexer.specs.Tokens.{Kind};
@@ -18,33 +18,15 @@ pub fn put_byte(out: &mut [u8], n: usize, b: u8) -> usize
 {
     if n < out.len() {
         out[n] = b;
-        return n + 1;
     }
     n + 1
-}
-
-// The bytes of a stored text, which are those of its characters already: a name is written as it is.
-fn put_bytes(out: &mut [u8], n: usize, texts: &[u8], place: usize, len: usize) -> usize
-    requires { (place + len ≤ length texts.now) × (n + len < 2 ^ 64) }
-    ensures { Adds (take len (drop place texts.now)) out.old n out.new result }
-{
-    let mut m = n;
-    let mut i = 0;
-    while i < len {
-        m = put_byte(out, m, texts[place + i]);
-        i += 1;
-    }
-    m
 }
 
 // Whether a backslash goes before a byte of a string. A byte of 0x80 or more is part of a character that needs none.
 fn is_special(b: u8) -> bool
     ensures { result ≡ (is "\"" b || is "\\" b) }
 {
-    if b == 0x22 {
-        return true;
-    }
-    b == 0x5C
+    b == b'"' || b == b'\\'
 }
 
 // A byte of a string.
@@ -53,24 +35,10 @@ fn put_escaped(out: &mut [u8], n: usize, b: u8) -> usize
     ensures { Adds (quoted (b ∷ [])) out.old n out.new result }
 {
     if is_special(b) {
-        let m = put_byte(out, n, 0x5C);
+        let m = put_byte(out, n, b'\\');
         return put_byte(out, m, b);
     }
     put_byte(out, n, b)
-}
-
-// A stored text as a string token. Escaping its bytes is escaping its characters.
-fn put_string(out: &mut [u8], n: usize, texts: &[u8], place: usize, len: usize) -> usize
-    requires { (place + len ≤ length texts.now) × (n + len * 2 + 2 < 2 ^ 64) }
-    ensures { Adds (spell (Kind.string (quoted (take len (drop place texts.now))))) out.old n out.new result }
-{
-    let mut m = put_byte(out, n, 0x22);
-    let mut i = 0;
-    while i < len {
-        m = put_escaped(out, m, texts[place + i]);
-        i += 1;
-    }
-    put_byte(out, m, 0x22)
 }
 
 // A hexadecimal digit, upper case.
@@ -79,9 +47,10 @@ fn hex_digit(d: u32) -> u8
     ensures { result ≡ hex_digit d }
 {
     if d < 10 {
-        return (0x30 + d) as u8;
+        b'0' + d as u8
+    } else {
+        b'A' + (d as u8 - 10)
     }
-    (0x41 + (d - 10)) as u8
 }
 
 // The digit of a code at a power of 16, if it is not a leading zero.
@@ -113,70 +82,54 @@ fn put_code(out: &mut [u8], n: usize, code: u32) -> usize
     requires { n + 10 < 2 ^ 64 }
     ensures { Adds (code_text code) out.old n out.new result }
 {
-    let a = put_byte(out, n, 0x5C);
-    let b = put_byte(out, a, 0x75);
-    let c = put_byte(out, b, 0x7B);
+    let a = put_byte(out, n, b'\\');
+    let b = put_byte(out, a, b'u');
+    let c = put_byte(out, b, b'{');
     let d = put_hex(out, c, code);
-    put_byte(out, d, 0x7D)
-}
-
-pub fn wide(x: u32) -> usize
-    ensures { result ≡ x }
-{
-    x as usize
-}
-
-// The last code of a span that ends before `past`.
-fn last_code(past: u32) -> u32
-    ensures { result ≡ past - 1 }
-{
-    if past == 0 {
-        return 0;
-    }
-    past - 1
-}
-
-// A span of a set: its code where it has one, or its first and its last.
-fn put_span(out: &mut [u8], n: usize, first: u32, past: u32) -> usize
-    requires { n + 21 < 2 ^ 64 }
-    ensures { Adds (span_text (first upto past)) out.old n out.new result }
-{
-    let a = put_code(out, n, first);
-    if wide(first) + 1 == wide(past) {
-        return a;
-    }
-    let b = put_byte(out, a, 0x2D);
-    put_code(out, b, last_code(past))
+    put_byte(out, d, b'}')
 }
 
 // Where what follows n bytes goes, in an output of `len` bytes: past its end where they did not fit.
 pub fn upto(n: usize, len: usize) -> usize
     ensures { (result ≤ len) × (n ≤ len → result ≡ n) }
 {
-    if n <= len {
-        return n;
-    }
-    len
+    n.min(len)
 }
 
-// Bytes at the front of an output.
+// Bytes at the front of an output. A stored name is written so: its bytes are those of its characters already. Most texts of the walk are
+// empty, and a copy of none is spared.
 pub fn put(s: &[u8], out: &mut [u8]) -> usize
     ensures { Wrote s.now out.old out.new result }
 {
-    put_bytes(out, 0, s, 0, s.len())
+    if s.is_empty() {
+        return 0;
+    }
+    if s.len() <= out.len() {
+        out[..s.len()].copy_from_slice(s);
+    }
+    s.len()
 }
 
-// A stored text as a string token, at the front of an output.
+// A stored text as a string token, at the front of an output. Escaping its bytes is escaping its characters.
 pub fn put_quoted(s: &[u8], out: &mut [u8]) -> usize
     requires { length s.now ≤ 2 ^ 32 }
     ensures { Wrote (spell (Kind.string (quoted s.now))) out.old out.new result }
 {
-    put_string(out, 0, s, 0, s.len())
+    let mut n = put_byte(out, 0, b'"');
+    for b in s {
+        n = put_escaped(out, n, *b);
+    }
+    put_byte(out, n, b'"')
 }
 
-// The codes of a span.
+// The codes of a span of a set, at the front of an output: its code where it has one, or its first and its last.
 pub fn put_codes(first: u32, past: u32, out: &mut [u8]) -> usize
     ensures { Wrote (span_text (first upto past)) out.old out.new result }
 {
-    put_span(out, 0, first, past)
+    let a = put_code(out, 0, first);
+    if first as usize + 1 == past as usize {
+        return a;
+    }
+    let b = put_byte(out, a, b'-');
+    put_code(out, b, past.saturating_sub(1))
 }

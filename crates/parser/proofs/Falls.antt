@@ -8,13 +8,13 @@ use mathlib.Core.List.{List}
 use lib.ListN.{length}
 use Rattle.parser.specs.Steps.{placed, Onward}
 use Rattle.parser.proofs.Onward.{placed_in}
-use Rattle.tokens.specs.declared.Current.{Current}
+use Rattle.lexer.specs.declared.Token.{Token}
 
-abbrev pub rank : List ℕ → Current → ℕ → ℕ
+abbrev pub rank : List ℕ → Token → ℕ → ℕ
 rank s t r = (length s - placed s t) * 32 + r
 
 -- further on any function may be called; at the same place only a later one
-module _ {s : List ℕ} {t u : Current} where
+module _ {s : List ℕ} {t u : Token} where
   pub falls_past : {i n : ℕ} (r q : ℕ) → Onward s t u (suc i) → rank s t r ≡ n → q ≤ 31 → rank s u q < n
   falls_past r q o e h = let a = o.ahead in let b = placed_in s u o.lies in omega arith
 

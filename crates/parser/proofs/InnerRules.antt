@@ -4,6 +4,7 @@ use Prim.Native.Nat.{ℕ}
 use native.Mathlib.Omega.{arith}
 use mathlib.Core.Path.{◌≡◌, refl, sym, ◌∙◌}
 use mathlib.Core.Bool.{Bool, true, false}
+use mathlib.Core.Logic.{◌⊎◌, inl, inr}
 use mathlib.Core.List.{List, [], ◌∷◌}
 use mathlib.Core.Option.{some}
 use borrow.Author.Tests.{ne_eqb}
@@ -12,53 +13,54 @@ use lib.ListN.{length}
 use Rattle.basics.specs.Basics.{letters, same, spells, every}
 use Rattle.error.specs.Causes.{unexpected_token, inline_parameters}
 use Rattle.characters.specs.Places.{cut}
+use Rattle.lexer.specs.declared.Kind.{Kind}
 use Rattle.lexer.specs.declared.Kind.TheVariants as K
 use Rattle.lexer.specs.Tokens as T
 use Rattle.lexer.specs.Tokens.{Tokens}
-use Rattle.lexer.specs.Promise.{part_of}
-use Rattle.lexer.specs.Promise as L
+use Rattle.lexer.specs.Promise.{IsPart, part_of}
+use Rattle.lexer.specs.declared.Part.{Part}
+use Rattle.std.specs.Prelude.{Some}
 use Rattle.lexer.proofs.Spelled.{spells-codes}
 use Rattle.tree.specs.Syntax.{Expression, Identifier, Prop, SpecializeKind, RuleDeclaration, expressions}
 use Rattle.notation.specs.Parser.{Answer, read, refused, Parser, and_then, ◌>>=◌, pure, refuse, choose, start_of, here, refuse_here, kind_of, kind, next, eat, until, comma, parse_identifier}
 use Rattle.notation.specs.Expressions.{inline_by, parse_braced_expression, parse_rule_named, parse_inline_rule_expression, parse_specialize_expression, parse_parenthesized_expression, parse_arguments, parse_named, inner_by, parse_expression_inner, parse_props}
 use Rattle.tokens.specs.Promise.{stream, start_in, mark_of, name_of, at_of}
-use Rattle.parser.specs.Shapes.{IsToken, std_class, parse_any, parse_literal, parse_set, class_part, is_std, named, name_arguments, arguments_list, Head, parse_params, parse_head}
-use Rattle.tokens.specs.declared.Current.{Current}
-use Rattle.tokens.specs.declared.Current.TheVariants.{Token, End}
-use Rattle.tokens.specs.declared.Part.TheVariants.{From}
+use Rattle.parser.specs.Shapes.{IsToken, std_class, parse_any, parse_literal, parse_set, class_part, is_std, named, name_arguments, Head, parse_params, parse_head}
+use Rattle.lexer.specs.declared.Token.{Token}
+use Rattle.lexer.specs.declared.Token.TheVariants.{Of, Eof}
 use Rattle.tokens.proofs.Stream.{start-of, mark-of}
 
-module _ (below : Parser ℕ (Expression ℕ)) (s : List ℕ) (t : Current) where
+module _ (below : Parser ℕ (Expression ℕ)) (s : List ℕ) (t : Token) where
   inner-is : parse_expression_inner below (stream s t) ≡ inner_by below (start_in t) (kind_of (stream s t)) (stream s t)
   unfolding parse_expression_inner here kind ◌>>=◌ and_then
   inner-is = rw (start-of s t)
 
   -- the kinds that need no further look
-  pub inner-string : {q a e start end : ℕ} → t ≡ Token (K.String q a e) start end → parse_expression_inner below (stream s t) ≡ parse_literal s (start_in t) a e (stream s t)
+  pub inner-string : {k : Kind} {q start end : ℕ} {a : Part} → t ≡ Of k start end → k ≡ K.String q a → parse_expression_inner below (stream s t) ≡ parse_literal s (start_in t) a (stream s t)
   unfolding inner_by parse_literal stream kind_of
-  inner-string h = inner-is ∙ rw h
+  inner-string h e = inner-is ∙ rw (h, e)
 
-  pub inner-set : {i : Bool} {a e start end : ℕ} → t ≡ Token (K.Set i a e) start end → parse_expression_inner below (stream s t) ≡ parse_set s (start_in t) i a e (stream s t)
+  pub inner-set : {k : Kind} {i : Bool} {a : Part} {start end : ℕ} → t ≡ Of k start end → k ≡ K.Set i a → parse_expression_inner below (stream s t) ≡ parse_set s (start_in t) i a (stream s t)
   unfolding inner_by stream kind_of
-  inner-set h = inner-is ∙ rw h
+  inner-set h e = inner-is ∙ rw (h, e)
 
-  pub inner-end : {p : ℕ} → t ≡ End p → parse_expression_inner below (stream s t) ≡ refused unexpected_token p
+  pub inner-end : {p : ℕ} → t ≡ Eof p → parse_expression_inner below (stream s t) ≡ refused unexpected_token p
   unfolding inner_by stream start_of kind_of refuse_here
   inner-end h = inner-is ∙ rw h
 
 -- ------------------------------------------------------------------ marks
 
-marked : (s : List ℕ) (t : Current) (c : ℕ) → IsToken t → mark_of t ≡ c → (c ≡ 0 → ⊥) → kind_of (stream s t) ≡ some (T.mark c)
+marked : (s : List ℕ) (t : Token) (c : ℕ) → IsToken t → mark_of t ≡ c → (c ≡ 0 → ⊥) → kind_of (stream s t) ≡ some (T.mark c)
 unfolding stream kind_of
-marked s (Token (K.String q a e) start end) c i h z = absurd (z (sym h))
-marked s (Token (K.At a e) start end) c i h z = absurd (z (sym h))
-marked s (Token (K.Set x a e) start end) c i h z = absurd (z (sym h))
-marked s (Token (K.Punctuation d) start end) c i h z = rw h
-marked s (Token (K.Identifier a e) start end) c i h z = absurd (z (sym h))
-marked s (End p) c i h z = absurd i
+marked s (Of (K.String q a) start end) c i h z = absurd (z (sym h))
+marked s (Of (K.At a) start end) c i h z = absurd (z (sym h))
+marked s (Of (K.Set x a) start end) c i h z = absurd (z (sym h))
+marked s (Of (K.Punctuation d) start end) c i h z = rw h
+marked s (Of (K.Identifier a) start end) c i h z = absurd (z (sym h))
+marked s (Eof p) c i h z = absurd i
 
-module _ (below : Parser ℕ (Expression ℕ)) (s : List ℕ) (t : Current) where
-  module _ {c start end : ℕ} (h : t ≡ Token (K.Punctuation c) start end) where
+module _ (below : Parser ℕ (Expression ℕ)) (s : List ℕ) (t : Token) where
+  module _ {c start end : ℕ} (h : t ≡ Of (K.Punctuation c) start end) where
     pub inner_paren : c ≡ 0x28 → parse_expression_inner below (stream s t) ≡ (next >>= λ _. parse_parenthesized_expression below (start_in t)) (stream s t)
     unfolding inner_by stream kind_of
     inner_paren e = inner-is below s t ∙ rw (h, e)
@@ -73,125 +75,102 @@ module _ (below : Parser ℕ (Expression ℕ)) (s : List ℕ) (t : Current) wher
 
   -- ------------------------------------------------------------------ `@` and a word
 
-  at-kind : {a e : ℕ} → at_of t ≡ From a e → kind_of (stream s t) ≡ some (T.at (part_of s a e))
+  at-kind : {a : Part} → at_of t ≡ Some a → kind_of (stream s t) ≡ some (T.at (part_of s a))
   unfolding stream kind_of
-  at-kind {a} {e} h = by t h
+  at-kind {a} h = by t h
     where
-      by : (t : Current) → at_of t ≡ From a e → kind_of (stream s t) ≡ some (T.at (part_of s a e))
-      by (Token (K.String q b f) start end) h = cc
-      by (Token (K.At b f) start end) h = let p : b ≡ a = cc in let q : f ≡ e = cc in rw (p, q)
-      by (Token (K.Set x b f) start end) h = cc
-      by (Token (K.Punctuation d) start end) h = cc
-      by (Token (K.Identifier b f) start end) h = cc
-      by (End p) h = cc
+      by : (t : Token) → at_of t ≡ Some a → kind_of (stream s t) ≡ some (T.at (part_of s a))
+      by (Of (K.String q b) start end) h = cc
+      by (Of (K.At b) start end) h = let p : b ≡ a = cc in rw p
+      by (Of (K.Set x b) start end) h = cc
+      by (Of (K.Punctuation d) start end) h = cc
+      by (Of (K.Identifier b) start end) h = cc
+      by (Eof p) h = cc
 
-  module _ {a e : ℕ} (h : at_of t ≡ From a e) where
-    inner-word : parse_expression_inner below (stream s t) ≡ inner_by below (start_in t) (some (T.at (part_of s a e))) (stream s t)
+  module _ {a : Part} (h : at_of t ≡ Some a) where
+    inner-word : parse_expression_inner below (stream s t) ≡ inner_by below (start_in t) (some (T.at (part_of s a))) (stream s t)
     inner-word = inner-is below s t ∙ rw (at-kind h)
 
-    pub inner-specialize : spells "specialize" (part_of s a e) ≡ true → parse_expression_inner below (stream s t) ≡ parse_specialize_expression below (start_in t) SpecializeKind.specialize (stream s t)
+    pub inner-specialize : spells "specialize" (part_of s a) ≡ true → parse_expression_inner below (stream s t) ≡ parse_specialize_expression below (start_in t) SpecializeKind.specialize (stream s t)
     unfolding inner_by
     inner-specialize w = inner-word ∙ rw w
 
-    module _ (v : spells "specialize" (part_of s a e) ≡ false) where
-      pub inner-extend : spells "extend" (part_of s a e) ≡ true → parse_expression_inner below (stream s t) ≡ parse_specialize_expression below (start_in t) SpecializeKind.extend (stream s t)
+    module _ (v : spells "specialize" (part_of s a) ≡ false) where
+      pub inner-extend : spells "extend" (part_of s a) ≡ true → parse_expression_inner below (stream s t) ≡ parse_specialize_expression below (start_in t) SpecializeKind.extend (stream s t)
       unfolding inner_by
       inner-extend w = inner-word ∙ rw (v, w)
 
-      pub inner-class : spells "extend" (part_of s a e) ≡ false → parse_expression_inner below (stream s t) ≡ class_part s (start_in t) a e (stream s t)
+      pub inner-class : spells "extend" (part_of s a) ≡ false → parse_expression_inner below (stream s t) ≡ class_part s (start_in t) a (stream s t)
       unfolding inner_by
       inner-class w = inner-word ∙ rw (v, w)
 
   -- ------------------------------------------------------------------ names
 
-  name-kind : {a e : ℕ} → name_of t ≡ From a e → kind_of (stream s t) ≡ some (T.name (part_of s a e))
+  name-kind : {a : Part} → name_of t ≡ Some a → kind_of (stream s t) ≡ some (T.name (part_of s a))
   unfolding stream kind_of
-  name-kind {a} {e} h = by t h
+  name-kind {a} h = by t h
     where
-      by : (t : Current) → name_of t ≡ From a e → kind_of (stream s t) ≡ some (T.name (part_of s a e))
-      by (Token (K.String q b f) start end) h = cc
-      by (Token (K.At b f) start end) h = cc
-      by (Token (K.Set x b f) start end) h = cc
-      by (Token (K.Punctuation d) start end) h = cc
-      by (Token (K.Identifier b f) start end) h = let p : b ≡ a = cc in let q : f ≡ e = cc in rw (p, q)
-      by (End p) h = cc
+      by : (t : Token) → name_of t ≡ Some a → kind_of (stream s t) ≡ some (T.name (part_of s a))
+      by (Of (K.String q b) start end) h = cc
+      by (Of (K.At b) start end) h = cc
+      by (Of (K.Set x b) start end) h = cc
+      by (Of (K.Punctuation d) start end) h = cc
+      by (Of (K.Identifier b) start end) h = let p : b ≡ a = cc in rw p
+      by (Eof p) h = cc
 
-  module _ {a e : ℕ} (h : name_of t ≡ From a e) where
-    inner_name : parse_expression_inner below (stream s t) ≡ inner_by below (start_in t) (some (T.name (part_of s a e))) (stream s t)
+  module _ {a : Part} (h : name_of t ≡ Some a) where
+    inner_name : parse_expression_inner below (stream s t) ≡ inner_by below (start_in t) (some (T.name (part_of s a))) (stream s t)
     inner_name = inner-is below s t ∙ rw (name-kind h)
 
-    pub inner-any : spells "_" (part_of s a e) ≡ true → parse_expression_inner below (stream s t) ≡ parse_any (start_in t) (stream s t)
+    pub inner-any : spells "_" (part_of s a) ≡ true → parse_expression_inner below (stream s t) ≡ parse_any (start_in t) (stream s t)
     unfolding inner_by parse_any
     inner-any w = inner_name ∙ rw w
 
-    module _ (w : spells "_" (part_of s a e) ≡ false) where
+    module _ (w : spells "_" (part_of s a) ≡ false) where
       pub inner-named-refused : {c p : ℕ} → next (stream s t) ≡ refused c p → parse_expression_inner below (stream s t) ≡ refused c p
       unfolding inner_by ◌>>=◌ and_then
       inner-named-refused f = inner_name ∙ rw (w, f)
 
-      pub inner-named : {us : Tokens ℕ} → next (stream s t) ≡ read tt us → parse_expression_inner below (stream s t) ≡ named below s (start_in t) a e us
+      pub inner-named : {us : Tokens ℕ} → next (stream s t) ≡ read tt us → parse_expression_inner below (stream s t) ≡ named below s (start_in t) a us
       unfolding inner_by named kind ◌>>=◌ and_then
       inner-named f = inner_name ∙ rw (w, f)
 
 -- whether a part spells a quoted word, by its bytes
-pub spelled : (s : List ℕ) (a e : ℕ) (word : List ℕ) (r : Bool) → L.Part s a e → r ≡ same word (cut s a e) → every (λ c. ltb c 0x80) word ≡ true → same word (part_of s a e) ≡ r
-spelled s a e word r p h q = rw h (sym (spells-codes word (cut s a e) q p.bytes))
+pub spelled : (s : List ℕ) (a : Part) (word : List ℕ) (r : Bool) → IsPart s a → r ≡ same word (cut s a.from a.to) → every (λ c. ltb c 0x80) word ≡ true → same word (part_of s a) ≡ r
+spelled s a word r p h q = rw h (sym (spells-codes word (cut s a.from a.to) q p.bytes))
 
 -- ------------------------------------------------------------------ after a name
 
-module _ (below : Parser ℕ (Expression ℕ)) (s : List ℕ) (p a e : ℕ) (u : Current) where
-  named-is : named below s p a e (stream s u) ≡ parse_named below p (part_of s a e) (kind_of (stream s u)) (stream s u)
+module _ (below : Parser ℕ (Expression ℕ)) (s : List ℕ) (p : ℕ) (a : Part) (u : Token) where
+  named-is : named below s p a (stream s u) ≡ parse_named below p (part_of s a) (kind_of (stream s u)) (stream s u)
   unfolding named
   named-is = refl
 
-  pub named-bracket : mark_of u ≡ 0x5B → named below s p a e (stream s u) ≡ parse_inline_rule_expression below p (part_of s a e) (stream s u)
+  pub named_inline : (mark_of u ≡ 0x5B) ⊎ (mark_of u ≡ 0x7B) → named below s p a (stream s u) ≡ parse_inline_rule_expression below p (part_of s a) (stream s u)
   unfolding parse_named
-  named-bracket h = named-is ∙ rw (mark-of s u, h)
-
-  pub named-brace : mark_of u ≡ 0x7B → named below s p a e (stream s u) ≡ parse_inline_rule_expression below p (part_of s a e) (stream s u)
-  unfolding parse_named
-  named-brace h = named-is ∙ rw (mark-of s u, h)
+  named_inline (inl h) = named-is ∙ rw (mark-of s u, h)
+  named_inline (inr h) = named-is ∙ rw (mark-of s u, h)
 
   module _ (h : mark_of u ≡ 0x5B → ⊥) (k : mark_of u ≡ 0x7B → ⊥) where
-    pub named_std : is_std (part_of s a e) u ≡ true → named below s p a e (stream s u) ≡ std_class p (stream s u)
+    pub named_std : is_std s a u ≡ true → named below s p a (stream s u) ≡ std_class p (stream s u)
     unfolding parse_named std_class
     named_std q = named-is ∙ rw (mark-of s u, ne_eqb (mark_of u) 0x5B h, ne_eqb (mark_of u) 0x7B k, q)
 
-    pub named-plain : is_std (part_of s a e) u ≡ false → named below s p a e (stream s u) ≡ name_arguments below s p a e (stream s u)
+    pub named-plain : is_std s a u ≡ false → named below s p a (stream s u) ≡ name_arguments below s p a (stream s u)
     unfolding parse_named name_arguments
     named-plain q = named-is ∙ rw (mark-of s u, ne_eqb (mark_of u) 0x5B h, ne_eqb (mark_of u) 0x7B k, q)
 
 module _ (below : Parser ℕ (Expression ℕ)) (ts : Tokens ℕ) where
-  module _ (s : List ℕ) (p a e : ℕ) where
-    pub reference-refused : {c q : ℕ} → parse_arguments below ts ≡ refused c q → name_arguments below s p a e ts ≡ refused c q
+  module _ (s : List ℕ) (p : ℕ) (a : Part) where
+    pub reference-refused : {c q : ℕ} → parse_arguments below ts ≡ refused c q → name_arguments below s p a ts ≡ refused c q
     unfolding name_arguments ◌>>=◌ and_then
     reference-refused f = rw (name_arguments, f)
 
-    pub reference-done : {es : List (Expression ℕ)} {us : Tokens ℕ} → parse_arguments below ts ≡ read es us → name_arguments below s p a e ts ≡ read (Expression.name p (part_of s a e) (expressions es)) us
+    pub reference-done : {es : List (Expression ℕ)} {us : Tokens ℕ} → parse_arguments below ts ≡ read es us → name_arguments below s p a ts ≡ read (Expression.name p (part_of s a) (expressions es)) us
     unfolding name_arguments ◌>>=◌ and_then pure
     reference-done f = rw (name_arguments, f)
 
-  pub arguments-refused : {c q : ℕ} → eat "<" ts ≡ refused c q → parse_arguments below ts ≡ refused c q
-  unfolding parse_arguments ◌>>=◌ and_then
-  arguments-refused e = rw (parse_arguments, e)
-
-  pub arguments-none : eat "<" ts ≡ read false ts → parse_arguments below ts ≡ read [] ts
-  unfolding parse_arguments ◌>>=◌ and_then choose pure
-  arguments-none e = rw (parse_arguments, e)
-
-  pub arguments-some : {us : Tokens ℕ} → eat "<" ts ≡ read true us → parse_arguments below ts ≡ arguments_list below us
-  unfolding parse_arguments ◌>>=◌ and_then choose
-  arguments-some e = rw (parse_arguments, e)
-
 -- ------------------------------------------------------------------ inline rules
-
-bind_assoc : {A B C : Type 0} (m : Parser ℕ A) (f : A → Parser ℕ B) (g : B → Parser ℕ C) (ts : Tokens ℕ) → ((m >>= f) >>= g) ts ≡ (m >>= λ a. f a >>= g) ts
-unfolding ◌>>=◌ and_then
-bind_assoc {A} {B} {C} m f g ts = go (m ts)
-  where
-    go : (a : Answer ℕ A) → and_then (and_then a f) g ≡ and_then a (λ x us. and_then (f x us) g)
-    go (read x us) = refl
-    go (refused c p) = refl
 
 -- the head and then the body
 module _ (below : Parser ℕ (Expression ℕ)) (n : Identifier ℕ) (ts : Tokens ℕ) where

@@ -1,11 +1,12 @@
 -- The loops over the items of a sequence and over the arms of a choice.
 -- Assumes nothing.
-use Prim.Native.Nat.{ℕ, suc, ◌+◌, ◌*◌, ◌≤◌}
+use Prim.Native.Nat.{ℕ, suc, ◌+◌, ◌≤◌}
 use native.Mathlib.Omega.{arith}
-use mathlib.Core.Path.{◌≡◌, refl, ap, subst, ◌∙◌}
+use mathlib.Core.Path.{◌≡◌, refl, ap, ◌∙◌}
 use mathlib.Core.Bool.{true}
 use mathlib.Core.List.{List, [], ◌∷◌, ◌++◌, append-nil}
 use mathlib.Core.Option.{none}
+use Rattle.std.specs.Prelude.{Option, None}
 use lib.ListN.{length, length-append}
 use Rattle.lexer.specs.Tokens.{Tokens}
 use Rattle.tree.specs.Records.{nodes, texts_of}
@@ -15,14 +16,12 @@ use Rattle.tree.specs.Syntax.{ConflictMarker, Expression, expressions}
 use Rattle.notation.specs.Parser.{Answer, read, refused, Parser, eat, loop}
 use Rattle.notation.specs.Expressions.{Item, marker, expression, parse_expression_sequence, parse_item, parse_arm, first_empty_arm}
 use Rattle.tokens.specs.Promise.{stream, LiesIn}
-use Rattle.parser.specs.Storing.{Lent, lent, Stores, node, flat, nodes_of}
-use Rattle.parser.specs.Steps.{placed, Onward, Lays, Ready}
+use Rattle.parser.specs.Storing.{Lent, Stores, node, flat, nodes_of}
+use Rattle.parser.specs.Steps.{placed, Onward, Ready}
 use Rattle.parser.specs.Shapes.{item_nodes, markers_in, expressions_in, ShownOnly, Shown, Yields, YieldsMarker, YieldsItem, YieldsEnd, YieldsItems, YieldsArms, ReadyArms, empty_of, empty_by, empty_first}
-use Rattle.tokens.specs.declared.Current.{Current}
+use Rattle.lexer.specs.declared.Token.{Token}
 use Rattle.parser.specs.declared.parts.Shape.{Shape}
 use Rattle.parser.specs.declared.parts.Shape.TheVariants.{Other}
-use Rattle.parser.specs.declared.parts.Empty.{Empty}
-use Rattle.parser.specs.declared.parts.Empty.TheVariants as M
 use Rattle.notation.proofs.Turns.{loop-end}
 use Rattle.parser.proofs.Stored.{stores-then}
 use Rattle.parser.proofs.Onward.{placed_in, onward_then}
@@ -67,7 +66,7 @@ expressions-expression (marker k ∷ l) e = expressions-expression l e
 expressions-expression (expression f ∷ l) e = ap (λ (x : List (Expression ℕ)). f ∷ x) (expressions-expression l e)
 
 -- the items so far
-pub record Itemizing (below : Parser ℕ (Expression ℕ)) (s : List ℕ) (t₀ : Current) (a : Lent) (t : Current) (b : Lent) (markers others p : ℕ) (shape : Shape) : Type 0 where
+pub record Itemizing (below : Parser ℕ (Expression ℕ)) (s : List ℕ) (t₀ : Token) (a : Lent) (t : Token) (b : Lent) (markers others p : ℕ) (shape : Shape) : Type 0 where
   pub total : ℕ
   pub adds : total ≡ markers + others
   pub listing : Listing (parse_item below) item_nodes s t₀ 0 a t b total
@@ -75,22 +74,22 @@ pub record Itemizing (below : Parser ℕ (Expression ℕ)) (s : List ℕ) (t₀ 
   pub numbered : length (expressions_in listing.items) ≡ others
   pub shown : ShownOnly s t₀ t (expressions_in listing.items) p shape
 
-only-within : (s : List ℕ) (t₀ t u : Current) (es : List (Expression ℕ)) (p : ℕ) (shape : Shape) → ShownOnly s t₀ t es p shape → placed s t ≤ placed s u → ShownOnly s t₀ u es p shape
+only-within : (s : List ℕ) (t₀ t u : Token) (es : List (Expression ℕ)) (p : ℕ) (shape : Shape) → ShownOnly s t₀ t es p shape → placed s t ≤ placed s u → ShownOnly s t₀ u es p shape
 only-within s t₀ t u [] p shape h k = tt
 only-within s t₀ t u (e ∷ []) p shape h k = shown-within h (omega arith) k
 only-within s t₀ t u (e ∷ f ∷ es) p shape h k = tt
 
-only_snoc : (s : List ℕ) (t₀ t u : Current) (es : List (Expression ℕ)) (e : Expression ℕ) (p : ℕ) (shape : Shape) → Shown s t u e p shape → placed s t₀ ≤ placed s t → ShownOnly s t₀ u (es ++ e ∷ []) p shape
+only_snoc : (s : List ℕ) (t₀ t u : Token) (es : List (Expression ℕ)) (e : Expression ℕ) (p : ℕ) (shape : Shape) → Shown s t u e p shape → placed s t₀ ≤ placed s t → ShownOnly s t₀ u (es ++ e ∷ []) p shape
 only_snoc s t₀ t u [] e p shape h k = shown-within h k (omega arith)
 only_snoc s t₀ t u (f ∷ []) e p shape h k = tt
 only_snoc s t₀ t u (f ∷ g ∷ es) e p shape h k = tt
 
-pub itemizing : (below : Parser ℕ (Expression ℕ)) (s : List ℕ) (t : Current) (a : Lent) (p : ℕ) (shape : Shape) → LiesIn s 0 t → Itemizing below s t a t a 0 0 p shape
+pub itemizing : (below : Parser ℕ (Expression ℕ)) (s : List ℕ) (t : Token) (a : Lent) (p : ℕ) (shape : Shape) → LiesIn s 0 t → Itemizing below s t a t a 0 0 p shape
 unfolding markers_in expressions_in listing_start
 itemizing below s t a p shape h = record { total = 0; adds = refl; listing = listing_start (parse_item below) item_nodes s t 0 a h; counted = refl; numbered = refl; shown = tt }
 
-module _ {below : Parser ℕ (Expression ℕ)} {s : List ℕ} {t₀ : Current} {a : Lent} {t : Current} {b : Lent} {markers others p : ℕ} {shape : Shape} (i : Itemizing below s t₀ a t b markers others p shape) where
-  pub itemizing-marker : {u : Current} {c : Lent} → YieldsMarker (parse_item below [] (stream s t)) s t b u c → Itemizing below s t₀ a u c (markers + 1) others p shape
+module _ {below : Parser ℕ (Expression ℕ)} {s : List ℕ} {t₀ : Token} {a : Lent} {t : Token} {b : Lent} {markers others p : ℕ} {shape : Shape} (i : Itemizing below s t₀ a t b markers others p shape) where
+  pub itemizing-marker : {u : Token} {c : Lent} → YieldsMarker (parse_item below [] (stream s t)) s t b u c → Itemizing below s t₀ a u c (markers + 1) others p shape
   unfolding listing-turn
   itemizing-marker {u} {c} y =
       let w = y.onward.ahead in
@@ -105,7 +104,7 @@ module _ {below : Parser ℕ (Expression ℕ)} {s : List ℕ} {t₀ : Current} {
         shown = rw e (only-within s t₀ t u (expressions_in i.listing.items) p shape i.shown (omega arith));
       }
 
-  pub itemizing-expression : {u : Current} {c : Lent} {q : ℕ} {f : Shape} → YieldsItem (parse_item below [] (stream s t)) s t b u c q f → Itemizing below s t₀ a u c markers (others + 1) q f
+  pub itemizing-expression : {u : Token} {c : Lent} {q : ℕ} {f : Shape} → YieldsItem (parse_item below [] (stream s t)) s t b u c q f → Itemizing below s t₀ a u c markers (others + 1) q f
   unfolding listing-turn
   itemizing-expression {u} {c} {q} {f} y =
       let n = i.adds in
@@ -122,17 +121,15 @@ module _ {below : Parser ℕ (Expression ℕ)} {s : List ℕ} {t₀ : Current} {
         shown = rw e (only_snoc s t₀ t u (expressions_in i.listing.items) y.tree q f y.shown (omega arith));
       }
 
-  pub itemizing-over : {n x : ℕ} {ws ts vs us : List ℕ} → b ≡ lent n ws x ts → YieldsEnd (parse_item below [] (stream s t)) s t (lent n ws x ts) vs us
-      → YieldsItems (loop (parse_item below) (stream s t₀)) s t₀ a t (lent n vs x us) markers others p shape
-  itemizing-over {n} {x} {ws} {ts} {vs} {us} e y =
-      let m : b ≡ lent n vs x us = e ∙ rw (y.same-words, y.same-texts) in
+  pub itemizing-over : {c : Lent} → YieldsEnd (parse_item below [] (stream s t)) s t b c → YieldsItems (loop (parse_item below) (stream s t₀)) s t₀ a t c markers others p shape
+  itemizing-over {c} y =
       record {
         lists = record {
           items = i.listing.items;
           gives = loop-end (parse_item below) i.listing.goes (item-any below i.listing.items (stream s t) ∙ y.gives);
           counted = i.listing.counted ∙ i.adds;
           onward = i.listing.onward;
-          lays = subst (λ (c : Lent). Lays s t₀ t 0 (flat item_nodes i.listing.items) a c) m i.listing.lays;
+          lays = rw y.same i.listing.lays;
         };
         counted = i.counted;
         others = i.numbered;
@@ -154,17 +151,17 @@ module _ {below : Parser ℕ (Expression ℕ)} {s : List ℕ} {t₀ : Current} {
 
 -- ------------------------------------------------------------------ arms
 
-pub record Arming (below : Parser ℕ (Expression ℕ)) (s : List ℕ) (t₀ : Current) (a : Lent) (t : Current) (b : Lent) (count : ℕ) (empty : Empty) : Type 0 where
+pub record Arming (below : Parser ℕ (Expression ℕ)) (s : List ℕ) (t₀ : Token) (a : Lent) (t : Token) (b : Lent) (count : ℕ) (empty : Option ℕ) : Type 0 where
   pub listing : Listing (parse_arm below) (nodes_of expression_branch) s t₀ 0 a t b count
   pub blank : first_empty_arm listing.items ≡ empty_of empty
 
-pub arming : (below : Parser ℕ (Expression ℕ)) (s : List ℕ) (t : Current) (a : Lent) → LiesIn s 0 t → Arming below s t a t a 0 M.None
+pub arming : (below : Parser ℕ (Expression ℕ)) (s : List ℕ) (t : Token) (a : Lent) → LiesIn s 0 t → Arming below s t a t a 0 None
 unfolding first_empty_arm listing_start
 arming below s t a h = record { listing = listing_start (parse_arm below) (nodes_of expression_branch) s t 0 a h; blank = refl }
 
-module _ {below : Parser ℕ (Expression ℕ)} {s : List ℕ} {t₀ : Current} {a : Lent} {t : Current} {b : Lent} {count : ℕ} {empty : Empty} (i : Arming below s t₀ a t b count empty) where
+module _ {below : Parser ℕ (Expression ℕ)} {s : List ℕ} {t₀ : Token} {a : Lent} {t : Token} {b : Lent} {count : ℕ} {empty : Option ℕ} (i : Arming below s t₀ a t b count empty) where
   -- one arm more, behind its bar
-  pub arming-more : {u v : Current} {c : Lent} {p : ℕ} {shape : Shape} (y : Yields (parse_expression_sequence below (stream s u)) s u 0 1 b v c p shape) → Onward s t u 1
+  pub arming-more : {u v : Token} {c : Lent} {p : ℕ} {shape : Shape} (y : Yields (parse_expression_sequence below (stream s u)) s u 0 1 b v c p shape) → Onward s t u 1
       → eat "|" (stream s t) ≡ read true (stream s u) → Arming below s t₀ a v c (count + 1) (empty_by empty p shape)
   unfolding listing-turn
   arming-more {u} {v} y o e =
@@ -194,32 +191,20 @@ module _ {below : Parser ℕ (Expression ℕ)} {s : List ℕ} {t₀ : Current} {
       omega arith
 
   -- where an arm begins
-  pub arm_ready : {n x m y : ℕ} {ws ts vs us : List ℕ} {u : Current} → ReadyArms s t₀ n x → a ≡ lent n ws x ts → b ≡ lent m vs y us → Onward s t u 1 → Ready s u m y
-  arm_ready {n} {x} {m} {y} r e f o =
+  pub arm_ready : {u : Token} → ReadyArms s t₀ a → Onward s t u 1 → Ready s u b
+  arm_ready r o =
       let p = r.room in
       let q = r.space in
       let c = i.listing.lays.bound in
       let d = i.listing.lays.space in
-      let g : m ≡ n + 7 * length (flat (nodes_of expression_branch) i.listing.items) = rw (e, f) at i.listing.lays.stores.words-end in
-      let h : y ≡ x + length (texts_of (flat (nodes_of expression_branch) i.listing.items)) = rw (e, f) at i.listing.lays.stores.texts-end in
+      let g = i.listing.lays.stores.words-end in
+      let h = i.listing.lays.stores.texts-end in
       let w = o.ahead in
       record { lies = o.lies; small = r.small; room = omega arith; space = omega arith }
 
 -- ------------------------------------------------------------------ choices
 
--- behind the first arm
-pub arms_ready : {D : Answer ℕ (Expression ℕ)} {s : List ℕ} {t u : Current} {n x m y p : ℕ} {ws ts vs us : List ℕ} {shape : Shape} → Ready s t n x
-    → Yields D s t 0 1 (lent n ws x ts) u (lent m vs y us) p shape → ReadyArms s u m y
-arms_ready r g =
-    let a = r.room in
-    let b = r.space in
-    let c = g.lays.bound in
-    let d = g.lays.space in
-    let e = g.lays.stores.words-end in
-    let f = g.lays.stores.texts-end in
-    record { lies = g.onward.lies; small = r.small; room = omega arith; space = omega arith }
-
-module _ {C : Answer ℕ (Expression ℕ)} {B : Answer ℕ (List (Expression ℕ))} {s : List ℕ} {t u v : Current} {a b c : Lent} {p count : ℕ} {shape : Shape} {empty : Empty}
+module _ {C : Answer ℕ (Expression ℕ)} {B : Answer ℕ (List (Expression ℕ))} {s : List ℕ} {t u v : Token} {a b c : Lent} {p count : ℕ} {shape : Shape} {empty : Option ℕ}
     (g : Yields C s t 0 1 a u b p shape) (y : YieldsArms B s u b v c count empty) where
   -- no arm but the first
   pub choice-alone : {D : Answer ℕ (Expression ℕ)} → D ≡ read g.tree (stream s v) → count ≡ 0 → Yields D s t 0 2 a v c p shape
@@ -257,13 +242,13 @@ module _ {C : Answer ℕ (Expression ℕ)} {B : Answer ℕ (List (Expression ℕ
   pub first-empty : first_empty_arm (g.tree ∷ y.lists.items) ≡ empty_of (empty_first p shape empty)
   first-empty = empty-first g.tree y.lists.items empty p shape y.blank g.shown.blank g.shown.starts
 
-  pub choice_ready : {n x m z : ℕ} {ws ts vs us : List ℕ} → Ready s t n x → a ≡ lent n ws x ts → c ≡ lent m vs z us → (m ≤ 0x50000000) × (count ≤ 0x1000000)
-  choice_ready {n} {x} {m} {z} r e f =
+  pub choice_ready : Ready s t a → (c.n ≤ 0x50000000) × (count ≤ 0x1000000)
+  choice_ready r =
       let i = g.lays.bound in
       let k = y.lists.lays.bound in
       let st = stores-then g.lays.stores y.lists.lays.stores in
       let l = length-append (nodes (expression_branch g.tree)) (flat (nodes_of expression_branch) y.lists.items) in
-      let h : m ≡ n + 7 * length (nodes (expression_branch g.tree) ++ flat (nodes_of expression_branch) y.lists.items) = rw (e, f) at st.words-end in
+      let h = st.words-end in
       let o = r.room in
       let q = flat-length expression_branch y.lists.items in
       let w = y.lists.counted in

@@ -1,4 +1,3 @@
-pub mod Classes
 pub mod Stored
 pub mod Onward
 pub mod Lists
@@ -12,10 +11,8 @@ pub mod SequenceRules
 pub mod Shown
 pub mod PartRules
 pub mod HeadRules
-pub mod Took
 pub mod Yielded
 pub mod Marks
 pub mod Itemizing
 pub mod InnerLaws
-pub mod Told
 pub mod Falls

@@ -6,9 +6,11 @@ use native.Mathlib.Omega.{arith}
 use mathlib.Core.Path.{◌≡◌, refl, ap, sym, ◌∙◌}
 use mathlib.Core.Bool.{Bool, true, false}
 use mathlib.Core.List.{List, [], ◌∷◌, ◌++◌, append_assoc, append-nil}
-use mathlib.Core.Option.{Option, none, some}
+use mathlib.Core.Option as M
+use mathlib.Core.Option.{none, some}
+use Rattle.std.specs.Prelude.{Ok, Err}
 use lib.ListN.{length, length-append}
-use Rattle.error.specs.declared.Cause.{Cause}
+use Rattle.error.specs.declared.Stop.{Stop}
 use Rattle.error.specs.Promise.{cause_number}
 use Rattle.lexer.specs.Tokens.{Tokens}
 use Rattle.tree.specs.Records.{Node, texts_of}
@@ -17,8 +19,7 @@ use Rattle.notation.specs.Parser.{Answer, read, refused, Parser, and_then, ◌>>
 use Rattle.tokens.specs.Promise.{stream, LiesIn}
 use Rattle.parser.specs.Storing.{Lent, Stores, flat}
 use Rattle.parser.specs.Steps.{placed, Onward, Lays, Lists, between_by, separator, opening, Opens}
-use Rattle.tokens.specs.declared.Current.{Current}
-use Rattle.parser.specs.declared.props.Opened.{Opened}
+use Rattle.lexer.specs.declared.Token.{Token}
 use Rattle.parser.specs.declared.props.Opened.TheVariants as O
 use Rattle.parser.specs.declared.props.Comma.{Comma}
 use Rattle.notation.proofs.Turns.{Loop, loop-start, loop-turn, loop-end, loop-refused}
@@ -51,11 +52,11 @@ length_snoc xs x = length-append xs (x ∷ [])
 -- ------------------------------------------------------------------ laid out one after another
 
 module _ {s : List ℕ} where
-  pub lays-none : (t : Current) (k : ℕ) (a : Lent) → Lays s t t k [] a a
+  pub lays-none : (t : Token) (k : ℕ) (a : Lent) → Lays s t t k [] a a
   unfolding texts_of
   lays-none t k a = record { stores = stores-none a; bound = omega arith; space = omega arith }
 
-  pub lays-then : {t u v : Current} {i j : ℕ} {xs ys : List Node} {a b c : Lent} → Lays s t u i xs a b → Lays s u v j ys b c → Lays s t v (i + j) (xs ++ ys) a c
+  pub lays-then : {t u v : Token} {i j : ℕ} {xs ys : List Node} {a b c : Lent} → Lays s t u i xs a b → Lays s u v j ys b c → Lays s t v (i + j) (xs ++ ys) a c
   lays-then {i = i} {j} {xs} {ys} f g =
       let l = length-append xs ys in
       let m = ap length (texts-append xs ys) ∙ length-append (texts_of xs) (texts_of ys) in
@@ -66,22 +67,22 @@ module _ {s : List ℕ} where
       record { stores = stores-then f.stores g.stores; bound = omega arith; space = omega arith }
 
   -- between tokens further out, with less slack where they are
-  pub lays-between : {t u v w : Current} {i : ℕ} {xs : List Node} {a b : Lent} (j : ℕ) → Lays s u v i xs a b → placed s t ≤ placed s u → placed s v ≤ placed s w
+  pub lays-between : {t u v w : Token} {i : ℕ} {xs : List Node} {a b : Lent} (j : ℕ) → Lays s u v i xs a b → placed s t ≤ placed s u → placed s v ≤ placed s w
       → 2 * placed s v + i + 2 * placed s t ≤ 2 * placed s w + j + 2 * placed s u → Lays s t w j xs a b
   lays-between j f p q h = let a = f.bound in let c = f.space in record { stores = f.stores; bound = omega arith; space = omega arith }
 
 -- ------------------------------------------------------------------ loops
 
 -- the items so far are stored, and the loop goes on from the token t
-pub record Listing {A : Type 0} (step : List A → Parser ℕ (Option A)) (g : A → List Node) (s : List ℕ) (t₀ : Current) (k : ℕ) (a : Lent) (t : Current) (b : Lent) (count : ℕ) : Type 0 where
+pub record Listing {A : Type 0} (step : List A → Parser ℕ (M.Option A)) (g : A → List Node) (s : List ℕ) (t₀ : Token) (k : ℕ) (a : Lent) (t : Token) (b : Lent) (count : ℕ) : Type 0 where
   pub items : List A
   pub counted : length items ≡ count
   pub goes : Loop step (loop step (stream s t₀)) (1 - count) items (stream s t)
   pub onward : Onward s t₀ t 0
   pub lays : Lays s t₀ t k (flat g items) a b
 
-module _ {A : Type 0} (step : List A → Parser ℕ (Option A)) (g : A → List Node) (s : List ℕ) where
-  unfoldable pub listing_start : (t : Current) (k : ℕ) (a : Lent) → LiesIn s 0 t → Listing step g s t k a t a 0
+module _ {A : Type 0} (step : List A → Parser ℕ (M.Option A)) (g : A → List Node) (s : List ℕ) where
+  unfoldable pub listing_start : (t : Token) (k : ℕ) (a : Lent) → LiesIn s 0 t → Listing step g s t k a t a 0
   listing_start t k a h =
       record {
         items = [];
@@ -91,10 +92,10 @@ module _ {A : Type 0} (step : List A → Parser ℕ (Option A)) (g : A → List 
         lays = rw (flat-none g) (lays-none t k a);
       }
 
-module _ {A : Type 0} {step : List A → Parser ℕ (Option A)} {g : A → List Node} {s : List ℕ} {t₀ : Current} {k : ℕ} {a : Lent} {t : Current} {b : Lent} {count : ℕ}
+module _ {A : Type 0} {step : List A → Parser ℕ (M.Option A)} {g : A → List Node} {s : List ℕ} {t₀ : Token} {k : ℕ} {a : Lent} {t : Token} {b : Lent} {count : ℕ}
     (l : Listing step g s t₀ k a t b count) where
   -- one item more. It may take no token if it is the first, and have slack if it is, or if a token stands before it
-  unfoldable pub listing-more : {v : A} {u : Current} {c : Lent} → step l.items (stream s t) ≡ read (some v) (stream s u) → Onward s t u 0
+  unfoldable pub listing-more : {v : A} {u : Token} {c : Lent} → step l.items (stream s t) ≡ read (some v) (stream s u) → Onward s t u 0
       → size (stream s u) + (1 - (count + 1)) < size (stream s t) + (1 - count)
       → Stores (g v) b c → (count ≡ 0 → length (g v) + 2 * placed s t ≤ 2 * placed s u + k) → (0 < count → length (g v) + 2 * placed s t ≤ 2 * placed s u)
       → length (texts_of (g v)) + 3 * placed s t ≤ 3 * placed s u → Listing step g s t₀ k a u c (count + 1)
@@ -127,7 +128,7 @@ module _ {A : Type 0} {step : List A → Parser ℕ (Option A)} {g : A → List 
       bounded (i ∷ is) (suc d) z p w n first later = let y = later (omega arith) in omega arith
 
   -- one that takes a token, without slack
-  unfoldable pub listing-turn : {v : A} {u : Current} {c : Lent} → step l.items (stream s t) ≡ read (some v) (stream s u) → Onward s t u 1 → Lays s t u 0 (g v) b c
+  unfoldable pub listing-turn : {v : A} {u : Token} {c : Lent} → step l.items (stream s t) ≡ read (some v) (stream s u) → Onward s t u 1 → Lays s t u 0 (g v) b c
       → Listing step g s t₀ k a u c (count + 1)
   unfolding listing-more
   listing-turn e o y =
@@ -136,7 +137,7 @@ module _ {A : Type 0} {step : List A → Parser ℕ (Option A)} {g : A → List 
       listing-more e (onward-least 0 o (omega arith)) (omega arith) y.stores (λ z. omega arith) (λ z. omega arith) y.space
 
   -- no more, and a mark behind them
-  pub listing-closed : {u : Current} → step l.items (stream s t) ≡ read none (stream s u) → Onward s t u 1 → k ≤ 2 → Lists (loop step (stream s t₀)) g s t₀ 1 a u b count
+  pub listing-closed : {u : Token} → step l.items (stream s t) ≡ read none (stream s u) → Onward s t u 1 → k ≤ 2 → Lists (loop step (stream s t₀)) g s t₀ 1 a u b count
   listing-closed e o h =
       let w = o.ahead in
       record {
@@ -164,7 +165,7 @@ module _ {A : Type 0} {step : List A → Parser ℕ (Option A)} {g : A → List 
 -- ------------------------------------------------------------------ up to a mark
 
 module _ {A : Type 0} (m : Char) (b : Comma) (item : List A → Parser ℕ A) where
-  abbrev list_step : List A → Parser ℕ (Option A)
+  abbrev list_step : List A → Parser ℕ (M.Option A)
   list_step = until_step (eat m) (between_by b) item
 
   separated : (is : List A) (count : ℕ) → length is ≡ count → (ts : Tokens ℕ) → separate (between_by b) is ts ≡ separator b count ts
@@ -174,7 +175,7 @@ module _ {A : Type 0} (m : Char) (b : Comma) (item : List A → Parser ℕ A) wh
   separated (x ∷ is) zero e ts = absurd (omega arith)
   separated (x ∷ is) (suc n) e ts = refl
 
-  abbrev behind : List A → Bool → Parser ℕ (Option A)
+  abbrev behind : List A → Bool → Parser ℕ (M.Option A)
   behind is done = choose done (pure none) (item is >>= λ x. pure (some x))
 
   step-opening : (is : List A) (count : ℕ) → length is ≡ count → (ts : Tokens ℕ) → list_step is ts ≡ and_then (opening m b count ts) (behind is)
@@ -191,15 +192,15 @@ module _ {A : Type 0} (m : Char) (b : Comma) (item : List A → Parser ℕ A) wh
       go (read false us) = rw (separated is count e us) (after (separator b count us))
       go (refused c p) = refl
 
-  module _ {s : List ℕ} {t : Current} {count : ℕ} {r : Opened} (o : Opens s t (code m) b count r) (is : List A) (n : length is ≡ count) where
-    pub opens-item : {u : Current} → r ≡ O.Item u → list_step is (stream s t) ≡ and_then (item is (stream s u)) (λ x. pure (some x))
+  module _ {s : List ℕ} {t : Token} {count : ℕ} (is : List A) (n : length is ≡ count) where
+    pub opens-item : {u : Token} → Opens s t (code m) b count (Ok (O.Item u)) → list_step is (stream s t) ≡ and_then (item is (stream s u)) (λ x. pure (some x))
     unfolding and_then choose ◌>>=◌
-    opens-item e = step-opening is count n (stream s t) ∙ rw (o.opens m refl, e)
+    opens-item o = step-opening is count n (stream s t) ∙ rw (o.opens m refl)
 
-    pub opens-closed : {u : Current} → r ≡ O.Closed u → list_step is (stream s t) ≡ read none (stream s u)
+    pub opens-closed : {u : Token} → Opens s t (code m) b count (Ok (O.Closed u)) → list_step is (stream s t) ≡ read none (stream s u)
     unfolding and_then choose pure
-    opens-closed e = step-opening is count n (stream s t) ∙ rw (o.opens m refl, e)
+    opens-closed o = step-opening is count n (stream s t) ∙ rw (o.opens m refl)
 
-    pub opens-refused : {c : Cause} {p : ℕ} → r ≡ O.Refused c p → list_step is (stream s t) ≡ refused (cause_number c) p
+    pub opens-refused : {e : Stop} → Opens s t (code m) b count (Err e) → list_step is (stream s t) ≡ refused (cause_number e.cause) e.place
     unfolding and_then
-    opens-refused e = step-opening is count n (stream s t) ∙ rw (o.opens m refl, e)
+    opens-refused o = step-opening is count n (stream s t) ∙ rw (o.opens m refl)

@@ -1,16 +1,17 @@
 -- Props: what the parts of their definition give, and what it then gives.
 -- Assumes nothing.
-use Prim.Native.Nat.{ℕ, zero, suc, ◌+◌, ◌≤◌}
+use Prim.Native.Nat.{ℕ, ◌+◌, ◌≤◌}
 use native.Mathlib.Omega.{arith}
 use mathlib.Core.Path.{◌≡◌, refl, ap, sym, ◌∙◌}
 use mathlib.Core.Bool.{Bool, true, false}
 use mathlib.Core.List.{List, [], ◌∷◌}
-use mathlib.Core.Option.{Option, none, some}
+use mathlib.Core.Option as M
+use mathlib.Core.Option.{none, some}
+use Rattle.std.specs.Prelude.{Some, None, Ok}
+use Rattle.lexer.specs.declared.Part.{Part}
 use lib.ListN.{length}
 use borrow.Author.Tests.{ne_eqb}
-use Rattle.error.specs.declared.Cause.{Cause}
 use Rattle.error.specs.Causes.{unexpected_token}
-use Rattle.error.specs.Promise.{cause_number}
 use Rattle.characters.specs.Utf8.{codes, encode_all}
 use Rattle.characters.specs.Places.{cut}
 use Rattle.characters.proofs.Encode.{scalar-low, encode_1}
@@ -20,25 +21,20 @@ use Rattle.lexer.specs.declared.Kind.TheVariants.{String, Set, Punctuation, Iden
 use Rattle.lexer.specs.declared.Kind.TheVariants as K
 use Rattle.lexer.specs.Tokens.{Tokens}
 use Rattle.lexer.specs.Escapes.{decode_string}
-use Rattle.lexer.specs.Promise.{part_of}
 use Rattle.tree.specs.Syntax.{Identifier as Name, PropPart, Prop}
 use Rattle.tree.specs.Records.{Node, nodes}
 use Rattle.tree.specs.Stored.{flag, part_branch, prop_branch, named}
 use Rattle.notation.specs.Parser.{Answer, read, refused, Parser, and_then, ◌>>=◌, ◌>>◌, pure, choose, here, kind, kind_of, refuse_here, next, eat, expect, parse_identifier, loop}
 use Rattle.notation.specs.Expressions.{part_by, parse_part, prop_named, prop_by, parse_prop}
-use Rattle.tokens.specs.Promise.{stream, start_in, end_in, mark_of, name_of, at_of, string_of, arrival, LiesIn, Lies, Identifies, Expects}
-use Rattle.parser.specs.Storing.{Lent, lent, Stores, node, nodes_of}
+use Rattle.lexer.specs.Promise.{part_of}
+use Rattle.tokens.specs.Promise.{stream, start_in, end_in, mark_of, name_of, at_of, string_of, LiesIn, Identifies, Expects}
+use Rattle.parser.specs.Storing.{Lent, Stores, node, nodes_of}
 use Rattle.parser.specs.Steps.{Onward, Ready, Gives, Finds, FindsNone, Lists, PartValue, PropName, parse_value}
-use Rattle.tokens.specs.declared.Current.{Current}
-use Rattle.tokens.specs.declared.Current.TheVariants.{Token, End}
-use Rattle.tokens.specs.declared.Arrived.{Arrived}
-use Rattle.tokens.specs.declared.Arrived.TheVariants.{At, Refused}
-use Rattle.tokens.specs.declared.Taken.{Taken}
-use Rattle.tokens.specs.declared.Taken.TheVariants as G
-use Rattle.tokens.specs.declared.Part.TheVariants.{From, Nothing}
+use Rattle.lexer.specs.declared.Token.{Token}
+use Rattle.lexer.specs.declared.Token.TheVariants.{Of, Eof}
 use Rattle.tokens.proofs.Stream.{start-of, name-of, at-of}
 use Rattle.parser.proofs.Onward.{onward_then, onward-least, mark-token, next-onward, expect-onward}
-use Rattle.parser.proofs.Ready.{Held, Got, name-held, name_in_lem, at_in_lem, string-held, next-got, got-less, stored-text, lays-leaf, lays_parent, nodes-leaf, nodes-over, no_part, name-got, arrived-at, identifier_at}
+use Rattle.parser.proofs.Ready.{Held, Got, name-held, name_in_lem, at_in_lem, string-held, next-got, got-less, stored-text, lays-leaf, lays_parent, nodes-leaf, nodes-over, no_part, name-got}
 
 -- ------------------------------------------------------------------ a part
 
@@ -46,40 +42,37 @@ pub part-any : (is : List (PropPart ℕ)) (ts : Tokens ℕ) → parse_part [] ts
 unfolding parse_part
 part-any is ts = refl
 
-module _ (s : List ℕ) (t : Current) where
+module _ (s : List ℕ) (t : Token) where
   part-turn : parse_part [] (stream s t) ≡ part_by (start_in t) (kind_of (stream s t)) (stream s t)
   unfolding parse_part ◌>>=◌ and_then here kind
   part-turn = rw (start-of s t)
 
   -- of one token
-  module _ (v : PropPart ℕ) (e : part_by (start_in t) (kind_of (stream s t)) ≡ (next >> pure (some v))) (r : Arrived)
-      (h : (next (stream s t) ≡ arrival s r) × Lies s (end_in t) r) where
-    pub part-refused : {c : Cause} {p : ℕ} → r ≡ Refused c p → parse_part [] (stream s t) ≡ refused (cause_number c) p
+  module _ (v : PropPart ℕ) (e : part_by (start_in t) (kind_of (stream s t)) ≡ (next >> pure (some v))) where
+    pub part-refused : {c p : ℕ} → next (stream s t) ≡ refused c p → parse_part [] (stream s t) ≡ refused c p
     unfolding ◌>>=◌ and_then
-    part-refused {c} {p} q = let k : next (stream s t) ≡ refused (cause_number c) p = rw q at h.0 in part-turn ∙ rw (e, k)
+    part-refused k = part-turn ∙ rw (e, k)
 
-    part-found : {u : Current} {y : Node} {a b : Lent} → r ≡ At u → nodes (part_branch v) ≡ y ∷ [] → Got s t y.row.text u → Stores (y ∷ []) a b
+    pub part-found : {u : Token} {y : Node} {a b : Lent} → next (stream s t) ≡ read tt (stream s u) → nodes (part_branch v) ≡ y ∷ [] → Got s t y.row.text u → Stores (y ∷ []) a b
         → Finds (parse_part [] (stream s t)) (nodes_of part_branch) s t a u b
     unfolding ◌>>=◌ and_then pure
-    part-found {u} q n g f =
-        let k : next (stream s t) ≡ read tt (stream s u) = rw q at h.0 in
-        record { value = v; gives = part-turn ∙ rw (e, k); onward = g.onward; lays = rw n (lays-leaf f g.onward g.past) }
+    part-found k n g f = record { value = v; gives = part-turn ∙ rw (e, k); onward = g.onward; lays = rw n (lays-leaf f g.onward g.past) }
 
   -- none
-  pub part_none : {a : Lent} → part_by (start_in t) (kind_of (stream s t)) ≡ pure none → FindsNone (parse_part [] (stream s t)) s t a a.words a.texts
+  pub part_none : {a : Lent} → part_by (start_in t) (kind_of (stream s t)) ≡ pure none → FindsNone (parse_part [] (stream s t)) s t a a
   unfolding pure
-  part_none e = record { gives = part-turn ∙ rw e; same-words = refl; same-texts = refl }
+  part_none e = record { gives = part-turn ∙ rw e; same = refl }
 
-  pub end_by : {p : ℕ} → t ≡ End p → part_by (start_in t) (kind_of (stream s t)) ≡ pure none
+  pub end_by : {p : ℕ} → t ≡ Eof p → part_by (start_in t) (kind_of (stream s t)) ≡ pure none
   unfolding part_by kind_of stream
   end_by e = rw e
 
-  module _ {k : Kind} {start end : ℕ} (e : t ≡ Token k start end) where
-    pub at-by : {a f : ℕ} → k ≡ K.At a f → part_by (start_in t) (kind_of (stream s t)) ≡ pure none
+  module _ {k : Kind} {start end : ℕ} (e : t ≡ Of k start end) where
+    pub at-by : {a : Part} → k ≡ K.At a → part_by (start_in t) (kind_of (stream s t)) ≡ pure none
     unfolding part_by kind_of stream
     at-by q = rw (e, q)
 
-    pub set-by : {i : Bool} {a f : ℕ} → k ≡ Set i a f → part_by (start_in t) (kind_of (stream s t)) ≡ pure none
+    pub set-by : {i : Bool} {a : Part} → k ≡ Set i a → part_by (start_in t) (kind_of (stream s t)) ≡ pure none
     unfolding part_by kind_of stream
     set-by q = rw (e, q)
 
@@ -89,19 +82,16 @@ module _ (s : List ℕ) (t : Current) where
 
 -- a name or a dot
 module _ (s : List ℕ) where
-  name_by : {a e : ℕ} (t : Current) → name_of t ≡ From a e → part_by (start_in t) (kind_of (stream s t)) ≡ (next >> pure (some (PropPart.value (start_in t) (part_of s a e))))
+  name_by : {a : Part} (t : Token) → name_of t ≡ Some a → part_by (start_in t) (kind_of (stream s t)) ≡ (next >> pure (some (PropPart.value (start_in t) (part_of s a))))
   unfolding part_by kind_of stream
-  name_by {a} {e} (Token (Identifier b f) start end) q =
-      let y : b ≡ a = cc in
-      let z : f ≡ e = cc in
-      rw (y, z)
-  name_by (Token (K.At b f) start end) q = absurd (no_part q)
-  name_by (Token (String c b f) start end) q = absurd (no_part q)
-  name_by (Token (Set i b f) start end) q = absurd (no_part q)
-  name_by (Token (Punctuation c) start end) q = absurd (no_part q)
-  name_by (End p) q = absurd (no_part q)
+  name_by {a} (Of (Identifier b) start end) q = let y : b ≡ a = cc in rw y
+  name_by (Of (K.At b) start end) q = absurd (no_part q)
+  name_by (Of (String c b) start end) q = absurd (no_part q)
+  name_by (Of (Set i b) start end) q = absurd (no_part q)
+  name_by (Of (Punctuation c) start end) q = absurd (no_part q)
+  name_by (Eof p) q = absurd (no_part q)
 
-  pub name-value : {a e : ℕ} (t : Current) → LiesIn s 0 t → name_of t ≡ From a e → PartValue s t (cut s a e)
+  pub name-value : {a : Part} (t : Token) → LiesIn s 0 t → name_of t ≡ Some a → PartValue s t (cut s a.from a.to)
   name-value t l q = let h = name-held s t l q in record { part = name_by t q; bytes = h.part.bytes; holds = h.holds }
 
   -- the bytes of a dot are those of its character
@@ -112,61 +102,57 @@ module _ (s : List ℕ) where
   dot_codes : codes (0x2E ∷ []) ≡ 0x2E ∷ []
   dot_codes = ap codes (sym dot_bytes) ∙ codes_all (one_more (scalar-low 0x2E (omega arith)) none_left)
 
-  pub dot_value : (t : Current) → LiesIn s 0 t → mark_of t ≡ 0x2E → PartValue s t (0x2E ∷ [])
+  pub dot_value : (t : Token) → LiesIn s 0 t → mark_of t ≡ 0x2E → PartValue s t (0x2E ∷ [])
   unfolding part_by kind_of stream
-  dot_value (Token (Punctuation c) start end) l q = record { part = rw (q, dot_codes); bytes = rw (dot_codes, dot_bytes); holds = record { some_bytes = l.1; within = (let z = l.1 in omega arith) } }
-  dot_value (Token (String c b f) start end) l q = absurd (omega arith)
-  dot_value (Token (K.At b f) start end) l q = absurd (omega arith)
-  dot_value (Token (Identifier b f) start end) l q = absurd (omega arith)
-  dot_value (Token (Set i b f) start end) l q = absurd (omega arith)
-  dot_value (End p) l q = absurd (omega arith)
+  dot_value (Of (Punctuation c) start end) l q = record { part = rw (q, dot_codes); bytes = rw (dot_codes, dot_bytes); holds = record { some_bytes = l.1; within = (let z = l.1 in omega arith) } }
+  dot_value (Of (String c b) start end) l q = absurd (omega arith)
+  dot_value (Of (K.At b) start end) l q = absurd (omega arith)
+  dot_value (Of (Identifier b) start end) l q = absurd (omega arith)
+  dot_value (Of (Set i b) start end) l q = absurd (omega arith)
+  dot_value (Eof p) l q = absurd (omega arith)
 
-pub value_found : (s : List ℕ) (t : Current) {n x p : ℕ} {text : List ℕ} {u : Current} {a b : Lent} → Ready s t n x → PartValue s t text → (r : Arrived)
-    → (next (stream s t) ≡ arrival s r) × Lies s (end_in t) r → r ≡ At u → p ≡ start_in t → Stores (node 6 p text 0 0 0 ∷ []) a b
+pub value_found : (s : List ℕ) (t : Token) {l : Lent} {p : ℕ} {text : List ℕ} {u : Token} {a b : Lent} → Ready s t l → PartValue s t text
+    → (next (stream s t) ≡ read tt (stream s u)) × LiesIn s (end_in t) u → p ≡ start_in t → Stores (node 6 p text 0 0 0 ∷ []) a b
     → Finds (parse_part [] (stream s t)) (nodes_of part_branch) s t a u b
-value_found s t {text = text} f v r h q e st =
-    part-found s t _ v.part r h q (nodes-leaf _ ∙ rw v.bytes) (next-got s r f.lies v.holds h q) (rw e at st)
+value_found s t {text = text} f v h e st =
+    part-found s t _ v.part h.0 (nodes-leaf _ ∙ rw v.bytes) (next-got s f.lies v.holds h) (rw e at st)
 
 -- a string
-module _ (s : List ℕ) {a e : ℕ} where
-  string-by : (t : Current) → string_of t ≡ From a e → part_by (start_in t) (kind_of (stream s t)) ≡ (next >> pure (some (PropPart.value (start_in t) (decode_string (part_of s a e)))))
+module _ (s : List ℕ) {a : Part} where
+  string-by : (t : Token) → string_of t ≡ Some a → part_by (start_in t) (kind_of (stream s t)) ≡ (next >> pure (some (PropPart.value (start_in t) (decode_string (part_of s a)))))
   unfolding part_by kind_of stream
-  string-by (Token (String c b f) start end) q =
-      let y : b ≡ a = cc in
-      let z : f ≡ e = cc in
-      rw (y, z)
-  string-by (Token (K.At b f) start end) q = absurd (no_part q)
-  string-by (Token (Identifier b f) start end) q = absurd (no_part q)
-  string-by (Token (Set i b f) start end) q = absurd (no_part q)
-  string-by (Token (Punctuation c) start end) q = absurd (no_part q)
-  string-by (End p) q = absurd (no_part q)
+  string-by (Of (String c b) start end) q = let y : b ≡ a = cc in rw y
+  string-by (Of (K.At b) start end) q = absurd (no_part q)
+  string-by (Of (Identifier b) start end) q = absurd (no_part q)
+  string-by (Of (Set i b) start end) q = absurd (no_part q)
+  string-by (Of (Punctuation c) start end) q = absurd (no_part q)
+  string-by (Eof p) q = absurd (no_part q)
 
-  pub string-refused : (t : Current) {n x p : ℕ} {c : Cause} → Ready s t n x → string_of t ≡ From a e → (r : Arrived)
-      → (next (stream s t) ≡ arrival s r) × Lies s (end_in t) r → r ≡ Refused c p → parse_part [] (stream s t) ≡ refused (cause_number c) p
-  string-refused t f i r h q = part-refused s t _ (string-by t i) r h q
+  pub string-refused : (t : Token) {c p : ℕ} → string_of t ≡ Some a → next (stream s t) ≡ refused c p → parse_part [] (stream s t) ≡ refused c p
+  string-refused t i h = part-refused s t _ (string-by t i) h
 
-  pub string-found : (t : Current) {n x p m y : ℕ} {ws ts vs us : List ℕ} {u : Current} → Ready s t n x → string_of t ≡ From a e → (r : Arrived)
-      → (next (stream s t) ≡ arrival s r) × Lies s (end_in t) r → r ≡ At u → p ≡ start_in t
-      → Stores (node 6 p (encode_all (decode_string (codes (cut s a e)))) 0 0 0 ∷ []) (lent n ws x ts) (lent m vs y us) × (y ≤ x + length (cut s a e))
-      → Finds (parse_part [] (stream s t)) (nodes_of part_branch) s t (lent n ws x ts) u (lent m vs y us)
-  string-found t f i r h q o st =
-      part-found s t _ (string-by t i) r h q (nodes-leaf _) (got-less _ (next-got s r f.lies (string-held s t f.lies i).holds h q) (stored-text st.0 st.1)) (rw o at st.0)
+  pub string-found : (t : Token) {l k m : Lent} {p : ℕ} {u : Token} → Ready s t l → string_of t ≡ Some a
+      → (next (stream s t) ≡ read tt (stream s u)) × LiesIn s (end_in t) u → p ≡ start_in t
+      → Stores (node 6 p (encode_all (decode_string (codes (cut s a.from a.to)))) 0 0 0 ∷ []) k m → m.x ≤ k.x + length (cut s a.from a.to)
+      → Finds (parse_part [] (stream s t)) (nodes_of part_branch) s t k u m
+  string-found t f i h o st few =
+      part-found s t _ (string-by t i) h.0 (nodes-leaf _) (got-less _ (next-got s f.lies (string-held s t f.lies i).holds h) (stored-text st few)) (rw o at st)
 
 -- `{name}`
 module _ (s : List ℕ) where
-  abbrev braced : ℕ → Parser ℕ (Option (PropPart ℕ))
+  abbrev braced : ℕ → Parser ℕ (M.Option (PropPart ℕ))
   braced p = next >>= λ _. parse_identifier >>= λ n. expect "}" >>= λ _. pure (some (PropPart.name p n.name))
 
-  braced-by : (t : Current) → mark_of t ≡ 0x7B → part_by (start_in t) (kind_of (stream s t)) ≡ braced (start_in t)
+  braced-by : (t : Token) → mark_of t ≡ 0x7B → part_by (start_in t) (kind_of (stream s t)) ≡ braced (start_in t)
   unfolding part_by kind_of stream
-  braced-by (Token (Punctuation c) start end) q = rw q
-  braced-by (Token (String c b f) start end) q = absurd (omega arith)
-  braced-by (Token (K.At b f) start end) q = absurd (omega arith)
-  braced-by (Token (Identifier b f) start end) q = absurd (omega arith)
-  braced-by (Token (Set i b f) start end) q = absurd (omega arith)
-  braced-by (End p) q = absurd (omega arith)
+  braced-by (Of (Punctuation c) start end) q = rw q
+  braced-by (Of (String c b) start end) q = absurd (omega arith)
+  braced-by (Of (K.At b) start end) q = absurd (omega arith)
+  braced-by (Of (Identifier b) start end) q = absurd (omega arith)
+  braced-by (Of (Set i b) start end) q = absurd (omega arith)
+  braced-by (Eof p) q = absurd (omega arith)
 
-  module _ (t : Current) (e : mark_of t ≡ 0x7B) where
+  module _ (t : Token) (e : mark_of t ≡ 0x7B) where
     pub braced_halt : {c p : ℕ} → next (stream s t) ≡ refused c p → parse_part [] (stream s t) ≡ refused c p
     unfolding ◌>>=◌ and_then
     braced_halt f = part-turn s t ∙ rw (braced-by t e, f)
@@ -185,30 +171,30 @@ module _ (s : List ℕ) where
         unfolding ◌>>=◌ and_then pure
         braced-read h = part-turn s t ∙ rw (braced-by t e, f, and_then, g, h)
 
-  module _ (t : Current) {n x a e : ℕ} {u v : Current} (c : mark_of t ≡ 0x7B) (y : Ready s t n x) (r : Arrived) (h : (next (stream s t) ≡ arrival s r) × Lies s (end_in t) r)
-      (q : r ≡ At u) (g : Taken) (i : Identifies s u g) (j : g ≡ G.Got a e v) where
+  module _ (t : Token) {l : Lent} {a : Part} {u v : Token} (c : mark_of t ≡ 0x7B) (y : Ready s t l) (h : (next (stream s t) ≡ read tt (stream s u)) × LiesIn s (end_in t) u)
+      (i : Identifies s u (Ok (a, v))) where
     -- the brace, and the name behind it
-    pub braced-name : Onward s t u 1 × Held s u a e × Got s u (cut s a e) v
+    pub braced-name : Onward s t u 1 × Held s u a × Got s u (cut s a.from a.to) v
     braced-name =
-        let d = next-onward s t u r (mark-token t c (omega arith)) y.lies h q in
-        let m = name-got s g d.lies j i in
+        let d = next-onward s t (mark-token t c (omega arith)) y.lies h in
+        let m = name-got s d.lies i in
         (d, m.0, m.1)
 
-    pub braced-found : {p : ℕ} {w : Current} {k l : Lent} (f : Arrived) → Expects s v 0x7D f → f ≡ At w → p ≡ start_in t → Stores (node 7 p (cut s a e) 0 0 0 ∷ []) k l
-        → Finds (parse_part [] (stream s t)) (nodes_of part_branch) s t k w l
-    braced-found {w = w} f o z b st =
+    pub braced-found : {p : ℕ} {w : Token} {k m : Lent} → Expects s v 0x7D (Ok w) → p ≡ start_in t → Stores (node 7 p (cut s a.from a.to) 0 0 0 ∷ []) k m
+        → Finds (parse_part [] (stream s t)) (nodes_of part_branch) s t k w m
+    braced-found {w = w} o b st =
         let d = braced-name.0 in
         let m = braced-name.2 in
-        let x = expect-onward s "}" v w f (omega arith) m.onward.lies o z in
+        let x = expect-onward s "}" v (omega arith) m.onward.lies o in
         let d₁ = d.ahead in
         let m₁ = m.past in
         let x₁ = x.ahead in
         let on : Onward s t w 1 = onward-least 1 (onward_then d (onward_then m.onward x)) (omega arith) in
         record {
-          value = PropPart.name (start_in t) (part_of s a e);
-          gives = braced-read t c (arrived-at s r h.0 q) (identifier_at s _ g i j) (arrived-at s f (o.expects "}" refl) z);
+          value = PropPart.name (start_in t) (part_of s a);
+          gives = braced-read t c h.0 i.takes (o.expects "}" refl);
           onward = on;
-          lays = rw (nodes-leaf (named 7 (start_in t) (part_of s a e)), braced-name.1.part.bytes, ← b) (lays-leaf st on (omega arith));
+          lays = rw (nodes-leaf (named 7 (start_in t) (part_of s a)), braced-name.1.part.bytes, ← b) (lays-leaf st on (omega arith));
         }
 
 -- ------------------------------------------------------------------ a prop
@@ -217,14 +203,10 @@ module _ (s : List ℕ) where
 abbrev prop_of : (start : ℕ) → Bool → List ℕ → List (PropPart ℕ) → Prop ℕ
 prop_of p b n parts = record { start = p; at = b; name = n; value = parts }
 
-abbrev bit : ℕ → Bool
-bit zero = false
-bit (suc n) = true
-
 abbrev value_by : Bool → Parser ℕ (List (PropPart ℕ))
 value_by equals = choose equals (loop parse_part) (pure [])
 
-module _ (s : List ℕ) (t : Current) where
+module _ (s : List ℕ) (t : Token) where
   named_by : (b : Bool) (n : List ℕ) → prop_named b n (stream s t) ≡ and_then (next (stream s t)) (λ _. parse_value >>= λ parts. pure (prop_of (start_in t) b n parts))
   unfolding prop_named parse_value ◌>>=◌ and_then here
   named_by b n = rw (start-of s t) (go (next (stream s t)))
@@ -240,50 +222,46 @@ module _ (s : List ℕ) (t : Current) where
       go (read x us) = flatten (eat "=" us)
       go (refused c p) = refl
 
-  pub prop-none : {p : ℕ} → at_of t ≡ Nothing → name_of t ≡ Nothing → p ≡ start_in t → parse_prop (stream s t) ≡ refused unexpected_token p
+  pub prop-none : {p : ℕ} → at_of t ≡ None → name_of t ≡ None → p ≡ start_in t → parse_prop (stream s t) ≡ refused unexpected_token p
   unfolding parse_prop prop_by ◌>>=◌ and_then kind refuse_here
   prop-none e f q = rw (at-of s t, name-of s t, e, f, prop_by, start-of s t, q)
 
-  prop-by : (at a e : ℕ) → PropName s t at a e → parse_prop (stream s t) ≡ prop_named (bit at) (part_of s a e) (stream s t)
+  prop-by : (at : Bool) (a : Part) → PropName s t at a → parse_prop (stream s t) ≡ prop_named at (part_of s a) (stream s t)
   unfolding parse_prop prop_by ◌>>=◌ and_then kind
-  prop-by zero a e q = rw (at-of s t, name-of s t, q.0, q.1)
-  prop-by (suc n) a e q = rw (at-of s t, q.1)
+  prop-by false a q = rw (at-of s t, name-of s t, q.0, q.1)
+  prop-by true a q = rw (at-of s t, q)
 
-  bit-flag : (at a e : ℕ) → PropName s t at a e → flag (bit at) ≡ at
-  bit-flag zero a e q = refl
-  bit-flag (suc n) a e q = let z = q.0 in omega arith
+  pub prop-held : (at : Bool) (a : Part) {l : Lent} → Ready s t l → PropName s t at a → Held s t a
+  prop-held false a r q = name_in_lem r q.1
+  prop-held true a r q = at_in_lem r q
 
-  pub prop-held : (at a e : ℕ) {n x : ℕ} → Ready s t n x → PropName s t at a e → Held s t a e
-  prop-held zero a e r q = name_in_lem r q.1
-  prop-held (suc n) a e r q = at_in_lem r q.1
-
-  module _ (at a e : ℕ) (i : PropName s t at a e) where
+  module _ (at : Bool) (a : Part) (i : PropName s t at a) where
     pub prop_halt : {c p : ℕ} → next (stream s t) ≡ refused c p → parse_prop (stream s t) ≡ refused c p
     unfolding and_then
-    prop_halt f = prop-by at a e i ∙ named_by _ _ ∙ rw f
+    prop_halt f = prop-by at a i ∙ named_by _ _ ∙ rw f
 
     module _ {us : Tokens ℕ} (f : next (stream s t) ≡ read tt us) where
       pub prop-value_halt : {c p : ℕ} → parse_value us ≡ refused c p → parse_prop (stream s t) ≡ refused c p
       unfolding and_then ◌>>=◌
-      prop-value_halt g = prop-by at a e i ∙ named_by _ _ ∙ rw (f, and_then, g)
+      prop-value_halt g = prop-by at a i ∙ named_by _ _ ∙ rw (f, and_then, g)
 
       prop-read : {parts : List (PropPart ℕ)} {vs : Tokens ℕ} → parse_value us ≡ read parts vs
-          → parse_prop (stream s t) ≡ read (prop_of (start_in t) (bit at) (part_of s a e) parts) vs
+          → parse_prop (stream s t) ≡ read (prop_of (start_in t) at (part_of s a) parts) vs
       unfolding and_then ◌>>=◌ pure
-      prop-read g = prop-by at a e i ∙ named_by _ _ ∙ rw (f, and_then, g)
+      prop-read g = prop-by at a i ∙ named_by _ _ ∙ rw (f, and_then, g)
 
-    pub prop-next : {n x : ℕ} {u : Current} → Ready s t n x → (r : Arrived) → (next (stream s t) ≡ arrival s r) × Lies s (end_in t) r → r ≡ At u → Onward s t u 1
-    prop-next f r h q = (next-got s r f.lies (prop-held at a e f i).holds h q).onward
+    module _ {l : Lent} {u : Token} (f : Ready s t l) (h : (next (stream s t) ≡ read tt (stream s u)) × LiesIn s (end_in t) u) where
+      pub prop-next : Onward s t u 1
+      prop-next = (next-got s f.lies (prop-held at a f i).holds h).onward
 
-    pub prop-given : {n x p count : ℕ} {u v : Current} {k l m : Lent} → Ready s t n x → (r : Arrived) → (next (stream s t) ≡ arrival s r) × Lies s (end_in t) r → r ≡ At u
-        → Lists (parse_value (stream s u)) (nodes_of part_branch) s u 0 k v l count → p ≡ start_in t → Stores (node 5 p (cut s a e) at 0 count ∷ []) l m
-        → Gives (parse_prop (stream s t)) (nodes_of prop_branch) s t k v m
-    prop-given f r h q g o st =
-        let d = prop-held at a e f i in
-        let w = next-got s r f.lies d.holds h q in
-        record {
-          value = prop_of (start_in t) (bit at) (part_of s a e) g.items;
-          gives = prop-read (arrived-at s r h.0 q) g.gives;
-          onward = onward-least 1 (onward_then w.onward g.onward) (omega arith);
-          lays = rw (nodes-over part_branch _ g.items, d.part.bytes, bit-flag at a e i, g.counted, ← o) (lays_parent g.lays st w.onward w.past (omega arith));
-        }
+      pub prop-given : {p v count : ℕ} {w : Token} {k m n : Lent} → Lists (parse_value (stream s u)) (nodes_of part_branch) s u 0 k w m count → p ≡ start_in t
+          → v ≡ flag at → Stores (node 5 p (cut s a.from a.to) v 0 count ∷ []) m n → Gives (parse_prop (stream s t)) (nodes_of prop_branch) s t k w n
+      prop-given g o z st =
+          let d = prop-held at a f i in
+          let w = next-got s f.lies d.holds h in
+          record {
+            value = prop_of (start_in t) at (part_of s a) g.items;
+            gives = prop-read h.0 g.gives;
+            onward = onward-least 1 (onward_then w.onward g.onward) (omega arith);
+            lays = rw (nodes-over part_branch _ g.items, d.part.bytes, ← z, g.counted, ← o) (lays_parent g.lays st w.onward w.past (omega arith));
+          }

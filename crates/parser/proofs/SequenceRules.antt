@@ -15,8 +15,8 @@ use Rattle.notation.specs.Parser.{read, refused, Parser, and_then, ◌>>=◌, pu
 use Rattle.notation.specs.Expressions.{Item, expression, marker_mark, stacked, parse_repeat, repeated, slots, sequence_of, first_empty_arm, choice_by, choice_of, parse_expression_inner, parse_expression_suffix, item_by, parse_item, parse_expression_sequence, parse_arm, parse_expression_choice, choice_at}
 use Rattle.tokens.specs.Promise.{stream, start_in, mark_of}
 use Rattle.parser.specs.Shapes.{ends_by, parse_marker}
-use Rattle.tokens.specs.declared.Current.{Current}
-use Rattle.tokens.specs.declared.Current.TheVariants.{Token, End}
+use Rattle.lexer.specs.declared.Token.{Token}
+use Rattle.lexer.specs.declared.Token.TheVariants.{Of, Eof}
 use Rattle.tokens.proofs.Stream.{start-of, mark-of}
 
 module _ (below : Parser ℕ (Expression ℕ)) (ts : Tokens ℕ) where
@@ -67,7 +67,7 @@ module _ (below : Parser ℕ (Expression ℕ)) (ts : Tokens ℕ) where
 
 -- ------------------------------------------------------------------ items
 
-module _ (below : Parser ℕ (Expression ℕ)) (before : List (Item ℕ)) (s : List ℕ) (t : Current) where
+module _ (below : Parser ℕ (Expression ℕ)) (before : List (Item ℕ)) (s : List ℕ) (t : Token) where
   item-is : parse_item below before (stream s t) ≡ item_by below (start_in t) (kind_of (stream s t)) (marker_mark (mark_of t)) (stream s t)
   unfolding parse_item here kind ◌>>=◌ and_then
   item-is = rw (start-of s t, mark-of s t)
@@ -76,13 +76,13 @@ module _ (below : Parser ℕ (Expression ℕ)) (before : List (Item ℕ)) (s : L
   unfolding stream kind_of
   ends_is = by t
     where
-      by : (t : Current) → ends_sequence (kind_of (stream s t)) ≡ ends_by t
-      by (Token (K.String q a e) start end) = refl
-      by (Token (K.At a e) start end) = refl
-      by (Token (K.Set i a e) start end) = refl
-      by (Token (K.Punctuation c) start end) = refl
-      by (Token (K.Identifier a e) start end) = refl
-      by (End p) = refl
+      by : (t : Token) → ends_sequence (kind_of (stream s t)) ≡ ends_by t
+      by (Of (K.String q a) start end) = refl
+      by (Of (K.At a) start end) = refl
+      by (Of (K.Set i a) start end) = refl
+      by (Of (K.Punctuation c) start end) = refl
+      by (Of (K.Identifier a) start end) = refl
+      by (Eof p) = refl
 
   pub item-marker : {m : ConflictMarkerKind} → marker_mark (mark_of t) ≡ some m → parse_item below before (stream s t) ≡ parse_marker (start_in t) m (stream s t)
   unfolding item_by parse_marker

@@ -6,6 +6,7 @@ use mathlib.Core.Path.{◌≡◌, refl, sym, ◌∙◌}
 use mathlib.Core.Bool.{Bool, true, false}
 use mathlib.Core.List.{List, [], ◌∷◌, ◌++◌, append_assoc, append-nil}
 use mathlib.Core.Option.{none, some}
+use Rattle.std.specs.Prelude.{Option, Some, None}
 use lib.ListN.{length, length-append}
 use Rattle.basics.specs.Basics.{if◌then◌otherwise◌}
 use Rattle.characters.specs.Utf8.{encode_all}
@@ -20,11 +21,9 @@ use Rattle.tokens.specs.Promise.{stream}
 use Rattle.parser.specs.Storing.{Lent, node, flat, nodes_of}
 use Rattle.parser.specs.Steps.{placed, Onward}
 use Rattle.parser.specs.Shapes.{is_blank, Refers, Shown, Yields, repeat_nodes, item_nodes, markers_in, expressions_in, ShownOnly, content_of, empty_of, empty_by, empty_first, sequence_shape}
-use Rattle.tokens.specs.declared.Current.{Current}
+use Rattle.lexer.specs.declared.Token.{Token}
 use Rattle.parser.specs.declared.parts.Shape.{Shape}
 use Rattle.parser.specs.declared.parts.Shape.TheVariants.{Name, Literal, Repeat, Blank, Other}
-use Rattle.parser.specs.declared.parts.Empty.{Empty}
-use Rattle.parser.specs.declared.parts.Empty.TheVariants as M
 use Rattle.parser.proofs.Onward.{onward_then, onward-least}
 use Rattle.parser.proofs.Ready.{nodes-each, count-each}
 use Rattle.parser.proofs.Lists.{flat-none, flat-more, flat_snoc, lays-between}
@@ -138,7 +137,7 @@ several p (expression e ∷ marker m ∷ l) h = behind-marker p e m [] l
 several p (expression e ∷ expression f ∷ l) h = refl
 
 -- one expression alone
-module _ (s : List ℕ) (t u : Current) (p q : ℕ) (shape : Shape) where
+module _ (s : List ℕ) (t u : Token) (p q : ℕ) (shape : Shape) where
   pub alone : (l : List (Item ℕ)) → markers_in l ≡ 0 → length (expressions_in l) ≡ 1 → ShownOnly s t u (expressions_in l) q shape
       → Shown s t u (sequence_of p (slots [] l)) q shape × (nodes (expression_branch (sequence_of p (slots [] l))) ≡ flat item_nodes l)
   unfolding slots sequence_of markers_in expressions_in flat
@@ -163,55 +162,55 @@ count-items (expression e ∷ l) = let h = count-items l in omega arith
 
 -- ------------------------------------------------------------------ empty arms
 
-pub empty_snoc : (es : List (Expression ℕ)) (e : Expression ℕ) (m : Empty) (q : ℕ) (shape : Shape) → first_empty_arm es ≡ empty_of m → is_empty_arm e ≡ is_blank shape → start_of e ≡ q
+pub empty_snoc : (es : List (Expression ℕ)) (e : Expression ℕ) (m : Option ℕ) (q : ℕ) (shape : Shape) → first_empty_arm es ≡ empty_of m → is_empty_arm e ≡ is_blank shape → start_of e ≡ q
     → first_empty_arm (es ++ e ∷ []) ≡ empty_of (empty_by m q shape)
 unfolding first_empty_arm
 empty_snoc [] e m q shape h b st = by m h
   where
-    one : (x : Bool) → (if x then some q otherwise none) ≡ empty_of (if x then M.At q otherwise M.None)
+    one : (x : Bool) → (if x then some q otherwise none) ≡ empty_of (if x then Some q otherwise None)
     one true = refl
     one false = refl
 
-    by : (m : Empty) → none ≡ empty_of m → (if is_empty_arm e then some (start_of e) otherwise none) ≡ empty_of (empty_by m q shape)
-    by (M.At p) h = cc
-    by M.None h = rw (b, st) (one (is_blank shape))
+    by : (m : Option ℕ) → none ≡ empty_of m → (if is_empty_arm e then some (start_of e) otherwise none) ≡ empty_of (empty_by m q shape)
+    by (Some p) h = cc
+    by None h = rw (b, st) (one (is_blank shape))
 empty_snoc (f ∷ es) e m q shape h b st = by (λ k. empty_snoc es e m q shape k b st) (is_empty_arm f) h
   where
-    known : (m : Empty) {p : ℕ} → some p ≡ empty_of m → empty_of (empty_by m q shape) ≡ some p
-    known (M.At r) e = sym e
-    known M.None e = cc
+    known : (m : Option ℕ) {p : ℕ} → some p ≡ empty_of m → empty_of (empty_by m q shape) ≡ some p
+    known (Some r) e = sym e
+    known None e = cc
 
     by : (first_empty_arm es ≡ empty_of m → first_empty_arm (es ++ e ∷ []) ≡ empty_of (empty_by m q shape)) → (x : Bool) → (if x then some (start_of f) otherwise first_empty_arm es) ≡ empty_of m
         → (if x then some (start_of f) otherwise first_empty_arm (es ++ e ∷ [])) ≡ empty_of (empty_by m q shape)
     by go true h = sym (known m h)
     by go false h = go h
 
-pub empty-first : (e : Expression ℕ) (es : List (Expression ℕ)) (m : Empty) (p : ℕ) (shape : Shape) → first_empty_arm es ≡ empty_of m → is_empty_arm e ≡ is_blank shape → start_of e ≡ p
+pub empty-first : (e : Expression ℕ) (es : List (Expression ℕ)) (m : Option ℕ) (p : ℕ) (shape : Shape) → first_empty_arm es ≡ empty_of m → is_empty_arm e ≡ is_blank shape → start_of e ≡ p
     → first_empty_arm (e ∷ es) ≡ empty_of (empty_first p shape m)
 unfolding first_empty_arm
 empty-first e es m p shape h b st = by (is_blank shape) b
   where
-    by : (x : Bool) → is_empty_arm e ≡ x → (if is_empty_arm e then some (start_of e) otherwise first_empty_arm es) ≡ empty_of (if x then M.At p otherwise m)
+    by : (x : Bool) → is_empty_arm e ≡ x → (if is_empty_arm e then some (start_of e) otherwise first_empty_arm es) ≡ empty_of (if x then Some p otherwise m)
     by true c = rw (c, st)
     by false c = rw (c, h)
 
 -- ------------------------------------------------------------------ starts and shapes
 
-refers-within : (s : List ℕ) (t u v w : Current) (e : Expression ℕ) (p : ℕ) (shape : Shape) → Refers s u v e p shape → placed s t ≤ placed s u → placed s v ≤ placed s w → Refers s t w e p shape
+refers-within : (s : List ℕ) (t u v w : Token) (e : Expression ℕ) (p : ℕ) (shape : Shape) → Refers s u v e p shape → placed s t ≤ placed s u → placed s v ≤ placed s w → Refers s t w e p shape
 refers-within s t u v w e p Name r h k = r
-refers-within s t u v w e p (Literal a b) r h k = let z = r.between in record { is = r.is; part = r.part; between = omega arith }
+refers-within s t u v w e p (Literal a) r h k = let z = r.between in record { is = r.is; part = r.part; between = omega arith }
 refers-within s t u v w e p (Repeat n) r h k = r
 refers-within s t u v w e p Blank r h k = r
 refers-within s t u v w e p Other r h k = r
 
 module _ {s : List ℕ} where
   -- between tokens further out
-  pub shown-within : {t u v w : Current} {e : Expression ℕ} {p : ℕ} {shape : Shape} → Shown s u v e p shape → placed s t ≤ placed s u → placed s v ≤ placed s w → Shown s t w e p shape
+  pub shown-within : {t u v w : Token} {e : Expression ℕ} {p : ℕ} {shape : Shape} → Shown s u v e p shape → placed s t ≤ placed s u → placed s v ≤ placed s w → Shown s t w e p shape
   shown-within {t} {u} {v} {w} {e} {p} {shape} x h k =
       record { starts = x.starts; small = x.small; stacks = x.stacks; low = x.low; blank = x.blank; refers = refers-within s t u v w e p shape x.refers h k }
 
   -- an expression with tokens around it
-  pub yields_within : {D C : Answer ℕ (Expression ℕ)} {t u v w : Current} {i j k l : ℕ} {a b : Lent} {p : ℕ} {shape : Shape} (g : Yields D s u i j a v b p shape) → Onward s t u k → Onward s v w l
+  pub yields_within : {D C : Answer ℕ (Expression ℕ)} {t u v w : Token} {i j k l : ℕ} {a b : Lent} {p : ℕ} {shape : Shape} (g : Yields D s u i j a v b p shape) → Onward s t u k → Onward s v w l
       → C ≡ read g.tree (stream s w) → j ≤ 2 * (k + l) → Yields C s t (k + i + l) 0 a w b p shape
   yields_within g o q e h =
       let x = o.ahead in
@@ -225,15 +224,11 @@ module _ {s : List ℕ} where
       }
 
   -- fewer steps
-  pub yields-least : {D : Answer ℕ (Expression ℕ)} {t u : Current} {i j : ℕ} {a b : Lent} {p : ℕ} {shape : Shape} (k : ℕ) → Yields D s t i j a u b p shape → k ≤ i → Yields D s t k j a u b p shape
+  pub yields-least : {D : Answer ℕ (Expression ℕ)} {t u : Token} {i j : ℕ} {a b : Lent} {p : ℕ} {shape : Shape} (k : ℕ) → Yields D s t i j a u b p shape → k ≤ i → Yields D s t k j a u b p shape
   yields-least k g h = record { tree = g.tree; gives = g.gives; onward = onward-least k g.onward h; lays = g.lays; shown = g.shown }
 
-  -- the definition says the same in other words
-  pub yields_as : {D C : Answer ℕ (Expression ℕ)} {t u : Current} {i j : ℕ} {a b : Lent} {p : ℕ} {shape : Shape} → Yields D s t i j a u b p shape → C ≡ D → Yields C s t i j a u b p shape
-  yields_as g e = record { tree = g.tree; gives = e ∙ g.gives; onward = g.onward; lays = g.lays; shown = g.shown }
-
 -- those that no one asks about
-module _ (s : List ℕ) (t u : Current) (p : ℕ) (h : p ≤ length s) where
+module _ (s : List ℕ) (t u : Token) (p : ℕ) (h : p ≤ length s) where
   pub shown-empty : Shown s t u (Expression.empty p) p Other
   unfolding stacked is_empty_arm reference_of
   shown-empty = record { starts = refl; small = h; stacks = refl; low = omega arith; blank = refl; refers = refl }
@@ -279,10 +274,10 @@ module _ (s : List ℕ) (t u : Current) (p : ℕ) (h : p ≤ length s) where
       }
 
 -- the content of a specialize with one part
-pub content-is : (s : List ℕ) (t u : Current) (e : Expression ℕ) (start p : ℕ) (shape : Shape) → Shown s t u e p shape → (ts : Tokens ℕ) → content_by start (reference_of e) ts ≡ content_of s start p shape ts
+pub content-is : (s : List ℕ) (t u : Token) (e : Expression ℕ) (start p : ℕ) (shape : Shape) → Shown s t u e p shape → (ts : Tokens ℕ) → content_by start (reference_of e) ts ≡ content_of s start p shape ts
 unfolding content_by reference_of
 content-is s t u e start p Name x ts = rw x.refers.is
-content-is s t u e start p (Literal a b) x ts = rw x.refers.is
+content-is s t u e start p (Literal a) x ts = rw x.refers.is
 content-is s t u e start p (Repeat k) x ts = rw x.refers
 content-is s t u e start p Blank x ts = rw x.refers
 content-is s t u e start p Other x ts = rw x.refers

@@ -5,26 +5,25 @@ use native.Mathlib.Omega.{arith}
 use mathlib.Core.Path.{◌≡◌, refl, ap, ap₂, sym, ◌∙◌}
 use mathlib.Core.Bool.{Bool, true, false}
 use mathlib.Core.List.{List, [], ◌∷◌, ◌++◌, append_assoc}
-use mathlib.Core.Option.{Option, none, some}
+use mathlib.Core.Option as M
+use mathlib.Core.Option.{none, some}
+use Rattle.std.specs.Prelude.{Option, Some, None, Ok}
 use lib.ListN.{length, take, drop, get_or, take-append-drop}
 use lib.Seq.{length-take-le, take-append-le, take-take, drop_at, drop-drop, get_or-take, get_or-drop}
 use borrow.Rule.Slice.PartMut.{put_mid}
 use Rattle.basics.specs.Basics.{is}
-use Rattle.characters.specs.declared.Char.{Char}
-use Rattle.characters.specs.declared.Char.TheVariants.{Scalar, Ill}
 use Rattle.characters.specs.Utf8.{codes_from, codes, first_char, on_char}
 use Rattle.characters.specs.Spans.{Span}
 use Rattle.characters.specs.Promise.{written}
-use Rattle.characters.proofs.Written.{written_in, written_not, length-written, written-empty, written-rest}
+use Rattle.characters.proofs.Written.{written_in, written_not, length-written, written-rest}
 use Rattle.lexer.specs.Escapes.{Atom, escape, escaped_by, atoms_from, atoms}
 use Rattle.lexer.specs.Sets.{range_end, span_by, spans, fault, sorted}
 use Rattle.lexer.specs.Sets as S
 use Rattle.lexer.specs.Promise.{spans_in, words_of, stored, Checks}
-use Rattle.lexer.specs.declared.sets.Ranges.TheVariants.{Sound}
 use Rattle.lexer.proofs.Held.{length-words, length-spans, length-insert, spans-back}
 use Rattle.tree.specs.Records.{count, nodes, records_from, words, texts_of}
 use Rattle.tree.specs.Stored.{span_branch}
-use Rattle.parser.specs.Storing.{lent, Stores, flat, nodes_of, span_words, StoresSpans, StoresSet}
+use Rattle.parser.specs.Storing.{lent, Stores, flat, nodes_of, span_words, StoresSet}
 use Rattle.parser.proofs.Stored.{written_none}
 
 -- ------------------------------------------------------------------ no more spans than bytes
@@ -35,9 +34,9 @@ codes-few j [] = omega arith
 codes-few (suc j) (x ∷ xs) = let h = codes-few j xs in omega arith
 codes-few zero (x ∷ xs) = by (first_char (x ∷ xs)) (λ k. codes-few k xs)
   where
-    by : (ch : Char) → ((k : ℕ) → length (codes_from k xs) ≤ length xs) → length (on_char ch (λ c n. c ∷ codes_from (n - 1) xs) []) ≤ suc (length xs)
-    by (Scalar c n) h = let i = h (n - 1) in omega arith
-    by Ill h = omega arith
+    by : (ch : Option (ℕ × ℕ)) → ((k : ℕ) → length (codes_from k xs) ≤ length xs) → length (on_char ch (λ c n. c ∷ codes_from (n - 1) xs) []) ≤ suc (length xs)
+    by (Some (c, n)) h = let i = h (n - 1) in omega arith
+    by None h = omega arith
 
 atoms-few : (cs : List ℕ) (k : ℕ) → length (atoms_from cs k) ≤ length cs
 unfolding atoms_from
@@ -57,7 +56,7 @@ written-few [] k = omega arith
 written-few (a ∷ l) (suc k) = let h = written-few l k in omega arith
 written-few (a ∷ l) zero = by (range_end a l) (λ k. written-few l k)
   where
-    by : (o : Option ℕ) → ((k : ℕ) → length (S.written l k) ≤ length l) → length (span_by a o (λ k. S.written l k)) ≤ suc (length l)
+    by : (o : M.Option ℕ) → ((k : ℕ) → length (S.written l k) ≤ length l) → length (span_by a o (λ k. S.written l k)) ≤ suc (length l)
     by none h = let i = h 0 in omega arith
     by (some z) h = let i = h 2 in omega arith
 
@@ -79,9 +78,6 @@ stored-written ss out e =
     rw (e, l)
 
 module _ (ss : List Span) (out : List ℕ) (n : ℕ) (e : fault ss ≡ none) where
-  pub read_out : length out < n → stored ss [] ++ out ≡ written out n (words_of (sorted ss))
-  read_out h = rw (stored-written ss [] e, written-empty) (sym (written_not out n (words_of (sorted ss)) (omega arith)))
-
   pub read-rest : n ≤ length out → put_mid n (length out - n) out (stored ss (take (length out - n) (drop n out))) ≡ written out n (words_of (sorted ss))
   read-rest h = rw (stored-written ss (take (length out - n) (drop n out)) e) (written-rest (words_of (sorted ss)) out n h)
 
@@ -131,12 +127,12 @@ module _ (p : ℕ) where
   unfolding span_words
   words_anywhere x ss = words-spans 0 x ss
 
-  texts-spans : (ss : List Span) → texts_of (flat (nodes_of (span_branch p)) ss) ≡ []
+  pub texts-spans : (ss : List Span) → texts_of (flat (nodes_of (span_branch p)) ss) ≡ []
   unfolding flat count nodes texts_of
   texts-spans [] = refl
   texts-spans (s ∷ ss) = texts-spans ss
 
-  length-flat : (ss : List Span) → length (flat (nodes_of (span_branch p)) ss) ≡ length ss
+  pub length-flat : (ss : List Span) → length (flat (nodes_of (span_branch p)) ss) ≡ length ss
   unfolding flat count nodes
   length-flat [] = refl
   length-flat (s ∷ ss) = ap suc (length-flat ss)
@@ -222,10 +218,20 @@ module _ (p n count : ℕ) (ws₀ : List ℕ) where
 
 -- ------------------------------------------------------------------ all
 
-module _ (p n m : ℕ) (ss : List Span) (ws mid vs : List ℕ) where
-  pub spread_stores : m ≡ length ss → mid ≡ written ws n (words_of ss) → vs ≡ written mid n (span_words p (spans_in m (drop n mid)))
-      → StoresSpans p ss n ws (n + 7 * m) vs
-  spread_stores e r w = record { stores = λ x ts. stores x ts }
+module _ (p n m x : ℕ) (ss : List Span) (ws mid vs ts : List ℕ) where
+  spread_stores : m ≡ length ss → mid ≡ written ws n (words_of ss) → vs ≡ written mid n (span_words p (spans_in m (drop n mid)))
+      → Stores (flat (nodes_of (span_branch p)) ss) (lent n ws x ts) (lent (n + 7 * m) vs x ts)
+  spread_stores e r w =
+      let l = length-flat p ss in
+      let t = texts-spans p ss in
+      record {
+        words-end = omega arith;
+        texts-end = rw t (omega arith);
+        same-words = ap length w ∙ length-written mid n (span_words p (spans_in m (drop n mid))) ∙ ap length r ∙ length-written ws n (words_of ss);
+        same-texts = refl;
+        records = λ h. there h ∙ ap (written ws n) (words_anywhere p x ss);
+        bytes = λ h. rw t (sym (written_none ts x h));
+      }
     where
       there : n + 7 * m ≤ length ws → vs ≡ written ws n (span_words p ss)
       there h =
@@ -235,25 +241,13 @@ module _ (p n m : ℕ) (ss : List Span) (ws mid vs : List ℕ) where
           let s : spans_in m (drop n mid) ≡ ss = rw (d, e) (spans-back ss (drop (n + length (words_of ss)) ws)) in
           w ∙ rw (s, r) (written_over ws n (words_of ss) (span_words p ss) (omega arith) (omega arith))
 
-      stores : (x : ℕ) (ts : List ℕ) → Stores (flat (nodes_of (span_branch p)) ss) (lent n ws x ts) (lent (n + 7 * m) vs x ts)
-      stores x ts =
-          let l = length-flat p ss in
-          let t = texts-spans p ss in
-          record {
-            words-end = omega arith;
-            texts-end = rw t (omega arith);
-            same-words = ap length w ∙ length-written mid n (span_words p (spans_in m (drop n mid))) ∙ ap length r ∙ length-written ws n (words_of ss);
-            same-texts = refl;
-            records = λ h. there h ∙ ap (written ws n) (words_anywhere p x ss);
-            bytes = λ h. rw t (sym (written_none ts x h));
-          }
+pub set-few : (b : List ℕ) {m : ℕ} → Checks (spans (codes b)) (Ok m) → m ≤ length b
+set-few b h = let e = h.count in let f = spans-few b in omega arith
 
-pub set-few : (b : List ℕ) (m : ℕ) → Checks (spans (codes b)) (Sound m) → m ≤ length b
-set-few b m h = let e = h.count in let f = spans-few b in omega arith
-
-module _ (b : List ℕ) (p n m : ℕ) (ws mid vs : List ℕ) where
-  pub set-stores : Checks (spans (codes b)) (Sound m) → (fault (spans (codes b)) ≡ none → mid ≡ written ws n (words_of (sorted (spans (codes b)))))
+module _ (b : List ℕ) (p n m x : ℕ) (ws mid vs ts : List ℕ) where
+  pub set-stores : Checks (spans (codes b)) (Ok m) → (fault (spans (codes b)) ≡ none → mid ≡ written ws n (words_of (sorted (spans (codes b)))))
       → vs ≡ written mid n (span_words p (spans_in m (drop n mid)))
-      → Checks (spans (codes b)) (Sound m) × StoresSet b p n ws vs (Sound m)
+      → StoresSet b p (lent n ws x ts) (lent (n + 7 * m) vs x ts) (Ok m)
   set-stores h r w =
-      (h, (set-few b m h, spread_stores p n m (sorted (spans (codes b))) ws mid vs (h.count ∙ sym (length-sorted (spans (codes b)))) (r (sym h.cause)) w))
+      let c = h.count ∙ sym (length-sorted (spans (codes b))) in
+      (set-few b h, c, spread_stores p n m x (sorted (spans (codes b))) ws mid vs ts c (r (sym h.cause)) w)

@@ -12,7 +12,8 @@ use Rattle.characters.specs.Promise.{written, written_all}
 use Rattle.characters.proofs.Written.{written_in, length-written, written-rest, all_in_lem}
 use Rattle.tree.specs.Records.{Node, Record, place_of, words_of, width, records_from, words, texts_of}
 use Rattle.tree.proofs.Encoded.{records-append, texts-append}
-use Rattle.parser.specs.Storing.{Lent, lent, Stores, StoresPlain, node}
+use Rattle.parser.specs.declared.store.Store.{Store}
+use Rattle.parser.specs.Storing.{Lent, Kept, Stores, node}
 
 -- ------------------------------------------------------------------ one after another
 
@@ -93,6 +94,14 @@ stores-then {xs} {ys} {a} {b} {c} f g =
           g.bytes (omega arith) ∙ rw (f.bytes (omega arith), te) (k ∙ ap (written a.texts a.x) (sym t));
     }
 
+-- ------------------------------------------------------------------ what is lent
+
+pub kept_then : {a b c : Store} → Kept a b → Kept b c → Kept a c
+kept_then f g = record { records = g.records ∙ f.records; texts = g.texts ∙ f.texts }
+
+pub kept_here : (a : Store) → Kept a a
+kept_here a = record { records = refl; texts = refl }
+
 -- ------------------------------------------------------------------ one node
 
 pub place-below : (x size : ℕ) {b : ℕ} → x < b → place_of x size < b
@@ -100,28 +109,24 @@ place-below x zero h = omega arith
 place-below x (suc n) h = h
 
 -- its record and its text
-module _ (k p : ℕ) (t : List ℕ) (v c n x : ℕ) (ws ts : List ℕ) where
-  pub stores_one : (size m : ℕ) (vs us : List ℕ) → size ≡ length t
-      → (m ≡ n + 7) × (vs ≡ written ws n (k ∷ p ∷ place_of x size ∷ size ∷ v ∷ 0 ∷ c ∷ []))
-      → length us ≡ length ts → (x + size ≤ length ts → us ≡ written ts x t)
-      → Stores (node k p t v 0 c ∷ []) (lent n ws x ts) (lent m vs (x + size) us)
+module _ {k p v c : ℕ} {t : List ℕ} {a b : Lent} where
+  pub stores_one : (size : ℕ) → size ≡ length t → b.n ≡ a.n + 7 → b.x ≡ a.x + size → b.words ≡ written a.words a.n (k ∷ p ∷ place_of a.x size ∷ size ∷ v ∷ 0 ∷ c ∷ [])
+      → length b.texts ≡ length a.texts → (a.x + size ≤ length a.texts → b.texts ≡ written a.texts a.x t) → Stores (node k p t v 0 c ∷ []) a b
   unfolding words records_from texts_of
-  stores_one size m vs us e r l b =
+  stores_one size e n x r l h =
       record {
-        words-end = r.0 ∙ omega arith;
-        texts-end = ap (λ (l : ℕ). x + l) (e ∙ ap length (sym (append-nil t)));
-        same-words = ap length r.1 ∙ length-written ws n _;
+        words-end = n ∙ omega arith;
+        texts-end = x ∙ ap (λ (l : ℕ). a.x + l) (e ∙ ap length (sym (append-nil t)));
+        same-words = ap length r ∙ length-written a.words a.n _;
         same-texts = l;
-        records = λ h. rw e at r.1;
-        bytes = λ h. b h ∙ ap (written ts x) (sym (append-nil t));
+        records = λ i. rw e at r;
+        bytes = λ i. h (rw (← x) i) ∙ ap (written a.texts a.x) (sym (append-nil t));
       }
 
-pub stores-plain : (k p v c n : ℕ) (ws : List ℕ) (m : ℕ) (vs : List ℕ) → (m ≡ n + 7) × (vs ≡ written ws n (k ∷ p ∷ 0 ∷ 0 ∷ v ∷ 0 ∷ c ∷ []))
-    → StoresPlain (node k p [] v 0 c) n ws m vs
-stores-plain k p v c n ws m vs r = record { stores = λ x ts. plain x ts }
-  where
-    plain : (x : ℕ) (ts : List ℕ) → Stores (node k p [] v 0 c ∷ []) (lent n ws x ts) (lent m vs x ts)
-    plain x ts = let z : x + 0 ≡ x = omega arith in rw z at (stores_one k p [] v c n x ws ts 0 m vs ts refl r refl (λ h. sym (written_none ts x (omega arith))))
+-- its record alone
+pub stores-plain : {k p v c : ℕ} {a b : Lent} → b.n ≡ a.n + 7 → b.x ≡ a.x → b.words ≡ written a.words a.n (k ∷ p ∷ 0 ∷ 0 ∷ v ∷ 0 ∷ c ∷ []) → b.texts ≡ a.texts
+    → Stores (node k p [] v 0 c ∷ []) a b
+stores-plain {a = a} n x r t = stores_one 0 refl n (x ∙ omega arith) r (ap length t) (λ h. t ∙ sym (written_none a.texts a.x (omega arith)))
 
 -- ------------------------------------------------------------------ the value of a string
 

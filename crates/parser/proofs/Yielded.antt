@@ -5,41 +5,45 @@ use native.Mathlib.Omega.{arith}
 use mathlib.Core.Path.{◌≡◌, refl, ap, sym, ◌∙◌}
 use mathlib.Core.Bool.{Bool, true, false}
 use mathlib.Core.List.{List, [], ◌∷◌, ◌++◌, append-nil}
-use mathlib.Core.Option.{Option, none, some}
+use mathlib.Core.Option as M
+use mathlib.Core.Option.{none, some}
 use lib.Dec.{eqb}
 use lib.ListN.{length, length-append}
 use borrow.Author.Tests.{eqb-false}
+use Rattle.std.specs.Prelude.{Result, Ok, Err}
+use Rattle.error.specs.declared.Stop.{Stop}
 use Rattle.characters.specs.Utf8.{encode_all}
 use Rattle.lexer.specs.Tokens.{Tokens}
-use Rattle.lexer.specs.Promise.{part_of}
 use Rattle.lexer.specs.Escapes.{decode_string}
 use Rattle.tree.specs.Records.{[]ᴮ, ◌∷ᴮ◌, count, Node, nodes, nodes_all, texts_of}
 use Rattle.tree.specs.Stored.{each, prop_branch, specialize_value, expression_branch}
 use Rattle.tree.specs.Syntax.{Expression, Prop, SpecializeKind, RepeatKind}
 use Rattle.tree.proofs.Encoded.{texts-append}
 use Rattle.notation.specs.Limits.{repeats}
-use Rattle.notation.specs.Parser.{Answer, read, refused, Parser, and_then, ◌>>=◌, pure, kind, kind_of, mark_in, refuse_here, size, turns, loop}
+use Rattle.notation.specs.Parser.{Answer, read, refused, Parser, and_then, ◌>>=◌, pure, kind, kind_of, mark_in, refuse_here, eat, size, turns, loop}
 use Rattle.notation.specs.Expressions.{Item, content_by, reference_of, repeat_mark, repeat_by, parse_repeat, repeated, slots, sequence_of}
-use Rattle.tokens.specs.Promise.{stream, start_in}
-use Rattle.parser.specs.Storing.{Lent, lent, Stores, node, flat, nodes_of}
+use Rattle.lexer.specs.Promise.{part_of}
+use Rattle.tokens.specs.Promise.{stream, start_in, Expects}
+use Rattle.parser.specs.Storing.{Lent, Stores, node, flat, nodes_of}
 use Rattle.parser.specs.Steps.{placed, Onward, Lays, Ready, Lists}
-use Rattle.parser.specs.Shapes.{stack_of, Refers, LiteralPart, ReadyContent, Shown, Yields, YieldsParts, SpecializeParts, SpecializeHeads, StoredContent, repeat_nodes, YieldsItems, sequence_shape}
-use Rattle.tokens.specs.declared.Current.{Current}
+use Rattle.parser.specs.Shapes.{stack_of, Shown, Yields, YieldsParts, ParsesParts, SpecializeParts, specialize_parts, SpecializeHeads, StoredContent, repeat_nodes, YieldsItems, sequence_shape}
+use Rattle.lexer.specs.declared.Token.{Token}
 use Rattle.parser.specs.declared.parts.Shape.{Shape}
-use Rattle.parser.specs.declared.parts.Shape.TheVariants.{Name, Literal, Repeat, Blank, Other}
+use Rattle.parser.specs.declared.parts.Shape.TheVariants.{Literal, Repeat, Other}
 use Rattle.parser.proofs.Stored.{stores-then}
-use Rattle.parser.proofs.Onward.{placed_in, start_small, onward_then, onward-least}
+use Rattle.parser.proofs.Onward.{start_small, onward-here, onward_then, onward-least, expect-onward}
 use Rattle.parser.proofs.Lists.{length_snoc, lays-then, lays-between}
 use Rattle.parser.proofs.Ready.{one-text, nodes-each, count-each}
 use Rattle.parser.proofs.PartRules.{nodes-literal}
-use Rattle.parser.proofs.Shown.{nodes-repeated, nodes-sequence, several, alone, content-is, shown-within, shown-special, shown-sequence, shown-repeat}
+use Rattle.parser.proofs.ExpressionRules as R
+use Rattle.parser.proofs.Shown.{nodes-repeated, nodes-sequence, several, alone, content-is, shown-within, yields_within, shown-special, shown-sequence, shown-repeat}
 
 pub no_texts : length (texts_of []) ≡ 0
 unfolding texts_of
 no_texts = refl
 
 -- a parent behind its children
-module _ {D : Answer ℕ (Expression ℕ)} {s : List ℕ} {t u : Current} {i : ℕ} {xs : List Node} {y : Node} {a b c : Lent} {p : ℕ} {shape : Shape} where
+module _ {D : Answer ℕ (Expression ℕ)} {s : List ℕ} {t u : Token} {i : ℕ} {xs : List Node} {y : Node} {a b c : Lent} {p : ℕ} {shape : Shape} where
   pub yields-over : (e : Expression ℕ) (j : ℕ) → D ≡ read e (stream s u) → Onward s t u i → Stores xs a b → Stores (y ∷ []) b c → nodes (expression_branch e) ≡ xs ++ y ∷ []
       → length xs + 1 + 2 * placed s t ≤ 2 * placed s u + j → length (texts_of xs) + length y.row.text + 3 * placed s t ≤ 3 * placed s u → Shown s t u e p shape
       → Yields D s t i j a u c p shape
@@ -66,7 +70,7 @@ nodes-special p k ps e f =
     rw (n, count-each prop_branch ps (expression_branch e ∷ᴮ expression_branch f ∷ᴮ []ᴮ))
 
 -- two parts, with a comma before the second
-pub parts-two : {D : Answer ℕ SpecializeParts} {C E : Answer ℕ (Expression ℕ)} {s : List ℕ} {t u v w : Current} {a b c : Lent} {p q : ℕ} {f h : Shape}
+pub parts-two : {D : Answer ℕ SpecializeParts} {C E : Answer ℕ (Expression ℕ)} {s : List ℕ} {t u v w : Token} {a b c : Lent} {p q : ℕ} {f h : Shape}
     (g : Yields C s t 0 2 a u b p f) (k : Yields E s v 1 0 b w c q h) → Onward s u v 1 → D ≡ read (record { token = g.tree; content = k.tree }) (stream s w) → YieldsParts D s t a w c
 parts-two {s = s} {t} {u} {v} {w} {a} {b} {c} g k o e =
     let x = o.ahead in
@@ -80,28 +84,28 @@ parts-two {s = s} {t} {u} {v} {w} {a} {b} {c} g k o e =
     }
 
 -- one part, which is a literal, and again as the content
-module _ {C : Answer ℕ (Expression ℕ)} {s : List ℕ} {t u : Current} {a b c : Lent} {p : ℕ} {f : Shape} (g : Yields C s t 0 2 a u b p f) (x : StoredContent s p f b c) where
+module _ {C : Answer ℕ (Expression ℕ)} {s : List ℕ} {t u : Token} {a b c : Lent} {p : ℕ} {f : Shape} (g : Yields C s t 0 2 a u b p f) (x : StoredContent s p f b c) where
   abbrev again : Expression ℕ
-  again = Expression.literal p (decode_string (part_of s x.from x.upto))
+  again = Expression.literal p (decode_string (part_of s x.body))
 
-  literal-shown : Shown s t u g.tree p (Literal x.from x.upto)
+  literal-shown : Shown s t u g.tree p (Literal x.body)
   literal-shown = rw x.is at g.shown
 
   pub content-again : (start : ℕ) → content_by start (reference_of g.tree) (stream s u) ≡ read again (stream s u)
   unfolding pure
   content-again start = content-is s t u g.tree start p f g.shown (stream s u) ∙ rw x.is
 
-  pub parts-one : {D : Answer ℕ SpecializeParts} {w : Current} → Onward s u w 1 → D ≡ read (record { token = g.tree; content = again }) (stream s w) → YieldsParts D s t a w c
+  pub parts-one : {D : Answer ℕ SpecializeParts} {w : Token} → Onward s u w 1 → D ≡ read (record { token = g.tree; content = again }) (stream s w) → YieldsParts D s t a w c
   parts-one o e =
       let y = o.ahead in
       let r = literal-shown.refers in
       let n = g.onward.ahead in
-      let i : nodes (expression_branch g.tree) ≡ node 36 p (encode_all (decode_string (part_of s x.from x.upto))) 0 0 0 ∷ [] =
-      ap (λ (e : Expression ℕ). nodes (expression_branch e)) r.is ∙ nodes-literal p (decode_string (part_of s x.from x.upto)) in
-      let j = nodes-literal p (decode_string (part_of s x.from x.upto)) in
-      let z = one-text (node 36 p (encode_all (decode_string (part_of s x.from x.upto))) 0 0 0) in
-      let m = ap length (texts-append (node 36 p (encode_all (decode_string (part_of s x.from x.upto))) 0 0 0 ∷ []) (node 36 p (encode_all (decode_string (part_of s x.from x.upto))) 0 0 0 ∷ []))
-      ∙ length-append (texts_of (node 36 p (encode_all (decode_string (part_of s x.from x.upto))) 0 0 0 ∷ [])) (texts_of (node 36 p (encode_all (decode_string (part_of s x.from x.upto))) 0 0 0 ∷ [])) in
+      let i : nodes (expression_branch g.tree) ≡ node 36 p (encode_all (decode_string (part_of s x.body))) 0 0 0 ∷ [] =
+      ap (λ (e : Expression ℕ). nodes (expression_branch e)) r.is ∙ nodes-literal p (decode_string (part_of s x.body)) in
+      let j = nodes-literal p (decode_string (part_of s x.body)) in
+      let z = one-text (node 36 p (encode_all (decode_string (part_of s x.body))) 0 0 0) in
+      let m = ap length (texts-append (node 36 p (encode_all (decode_string (part_of s x.body))) 0 0 0 ∷ []) (node 36 p (encode_all (decode_string (part_of s x.body))) 0 0 0 ∷ []))
+      ∙ length-append (texts_of (node 36 p (encode_all (decode_string (part_of s x.body))) 0 0 0 ∷ [])) (texts_of (node 36 p (encode_all (decode_string (part_of s x.body))) 0 0 0 ∷ [])) in
       let few = x.few in
       let between = r.between in
       record {
@@ -115,7 +119,23 @@ module _ {C : Answer ℕ (Expression ℕ)} {s : List ℕ} {t u : Current} {a b c
         };
       }
 
-pub special-over : {D : Answer ℕ (Expression ℕ)} {C : Answer ℕ SpecializeParts} {s : List ℕ} {t u v : Current} {a b c d : Lent} {count m : ℕ} (k : SpecializeKind) (p : ℕ)
+-- with `>` behind them, or its refusal
+module _ (below : Parser ℕ (Expression ℕ)) (start : ℕ) {s : List ℕ} {t u : Token} {a b : Lent} {p : ℕ} {f : Shape} (g : Yields (below (stream s t)) s t 0 2 a u b p f) where
+  pub pair_two : {v w : Token} {c : Lent} {q : ℕ} {h : Shape} → Yields (below (stream s v)) s v 0 2 b w c q h → Onward s u v 1 → eat "," (stream s u) ≡ read true (stream s v)
+      → (r : Result Token Stop) → Expects s w 0x3E r → ParsesParts (specialize_parts below start (stream s t)) s t a c r
+  pair_two {v} {w} k o e (Ok z) x =
+      let q = expect-onward s ">" w (omega arith) k.onward.lies x in
+      let i = yields_within k (onward-here s v o.lies) q (R.second-done below (stream s v) k.gives (x.expects ">" refl)) (omega arith) in
+      parts-two g i o (R.parts-both below start (stream s t) g.gives e i.gives)
+  pair_two {v} k o e (Err d) x = R.parts-second below start (stream s t) g.gives e (R.second-close below (stream s v) k.gives (x.expects ">" refl))
+
+  pub pair_one : {c : Lent} → StoredContent s p f b c → eat "," (stream s u) ≡ read false (stream s u) → (r : Result Token Stop) → Expects s u 0x3E r
+      → ParsesParts (specialize_parts below start (stream s t)) s t a c r
+  pair_one x e (Ok z) y =
+      parts-one g x (expect-onward s ">" u (omega arith) g.onward.lies y) (R.parts-one below start (stream s t) g.gives e (content-again g x start) (y.expects ">" refl))
+  pair_one x e (Err d) y = R.parts-one-close below start (stream s t) g.gives e (content-again g x start) (y.expects ">" refl)
+
+pub special-over : {D : Answer ℕ (Expression ℕ)} {C : Answer ℕ SpecializeParts} {s : List ℕ} {t u v : Token} {a b c d : Lent} {count m : ℕ} (k : SpecializeKind) (p : ℕ)
     (h : SpecializeHeads s t a u b count) (x : YieldsParts C s u b v c) → p ≤ length s → m ≡ specialize_value k → Stores (node 31 p [] m 0 (count + 2) ∷ []) c d
     → D ≡ read (Expression.special p k h.lists.items x.parts.token x.parts.content) (stream s v) → Yields D s t 1 0 a v d p Other
 special-over {s = s} {t} {u} {v} {count = count} k p h x z e f g =
@@ -138,13 +158,13 @@ special-over {s = s} {t} {u} {v} {count = count} k p h x z e f g =
 -- ------------------------------------------------------------------ repeats
 
 -- what holds of the items of a loop from turn to turn holds of all that it reads
-module _ {A : Type 0} (step : List A → Parser ℕ (Option A)) (P : List A → Type 0) (turn : (is : List A) (ts us : Tokens ℕ) (x : A) → P is → step is ts ≡ read (some x) us → P (is ++ x ∷ [])) where
+module _ {A : Type 0} (step : List A → Parser ℕ (M.Option A)) (P : List A → Type 0) (turn : (is : List A) (ts us : Tokens ℕ) (x : A) → P is → step is ts ≡ read (some x) us → P (is ++ x ∷ [])) where
   turns-keep : (n : ℕ) (is : List A) (ts : Tokens ℕ) → P is → (xs : List A) (us : Tokens ℕ) → turns n step is ts ≡ read xs us → P xs
   unfolding turns ◌>>=◌ and_then pure refuse_here
   turns-keep zero is ts h xs us e = absurd (let z : ◌≡◌ {A = ℕ} 0 1 = cc in omega arith)
   turns-keep (suc n) is ts h xs us e = go (λ b vs q. turns-keep n b vs q xs us) (step is ts) refl e
     where
-      go : ((b : List A) (vs : Tokens ℕ) → P b → turns n step b vs ≡ read xs us → P xs) → (r : Answer ℕ (Option A)) → step is ts ≡ r
+      go : ((b : List A) (vs : Tokens ℕ) → P b → turns n step b vs ≡ read xs us → P xs) → (r : Answer ℕ (M.Option A)) → step is ts ≡ r
           → and_then r (λ x. elim x as (λ x. Parser ℕ (List A)) [ none ↦ pure is | some a ↦ turns n step (is ++ a ∷ []) ]) ≡ read xs us → P xs
       go f (read none vs) q k = let z : is ≡ xs = cc in rw (← z) h
       go f (read (some x) vs) q k = f (is ++ x ∷ []) vs (turn is ts vs x h q) k
@@ -154,7 +174,7 @@ module _ {A : Type 0} (step : List A → Parser ℕ (Option A)) (P : List A → 
   unfolding loop
   loop-keeps ts h xs us e = turns-keep (suc (suc (size ts))) [] ts h xs us e
 
-room_by : (o : Option RepeatKind) (b : Bool) (ts us : Tokens ℕ) (x : RepeatKind) → repeat_by o b ts ≡ read (some x) us → b ≡ false
+room_by : (o : M.Option RepeatKind) (b : Bool) (ts us : Tokens ℕ) (x : RepeatKind) → repeat_by o b ts ≡ read (some x) us → b ≡ false
 unfolding repeat_by pure refuse_here
 room_by none true ts us x e = absurd (let z : ◌≡◌ {A = ℕ} 0 1 = cc in omega arith)
 room_by none false ts us x e = refl
@@ -185,7 +205,7 @@ unfolding repeats
 small-stack a b d h = omega arith
 
 -- an operand without marks, and with marks
-module _ {C : Answer ℕ (Expression ℕ)} {B : Answer ℕ (List RepeatKind)} {s : List ℕ} {t u v : Current} {a b c : Lent} {p start count : ℕ} {shape : Shape}
+module _ {C : Answer ℕ (Expression ℕ)} {B : Answer ℕ (List RepeatKind)} {s : List ℕ} {t u v : Token} {a b c : Lent} {p start count : ℕ} {shape : Shape}
     (g : Yields C s t 1 0 a u b p shape) (l : Lists B (repeat_nodes start) s u 0 b v c count) where
   both-lays : Lays s t v 0 (nodes (expression_branch (repeated start l.items g.tree))) a c
   both-lays = rw (nodes-repeated start l.items g.tree) (lays-then g.lays l.lays)
@@ -215,34 +235,14 @@ module _ {C : Answer ℕ (Expression ℕ)} {B : Answer ℕ (List RepeatKind)} {s
 
 -- ------------------------------------------------------------------ where to go on
 
-literal-part : (s : List ℕ) (t u : Current) (e : Expression ℕ) (p : ℕ) (shape : Shape) → Refers s t u e p shape → LiteralPart s shape
-literal-part s t u e p Name r = tt
-literal-part s t u e p (Literal a b) r = r.part
-literal-part s t u e p (Repeat k) r = tt
-literal-part s t u e p Blank r = tt
-literal-part s t u e p Other r = tt
-
-module _ {s : List ℕ} {t : Current} {n x : ℕ} (r : Ready s t n x) where
+module _ {s : List ℕ} {t : Token} {a : Lent} (r : Ready s t a) where
   pub ready_start : start_in t ≤ length s
   ready_start = start_small s t r.lies
 
-  pub ready_content : {D : Answer ℕ (Expression ℕ)} {u : Current} {m y p : ℕ} {ws ts vs us : List ℕ} {shape : Shape} → Yields D s t 0 2 (lent n ws x ts) u (lent m vs y us) p shape → ReadyContent s p shape m y
-  ready_content {u = u} {p = p} {shape = shape} g =
-      let i = placed_in s u g.onward.lies in
-      let a = r.room in
-      let b = r.space in
-      let c = g.lays.bound in
-      let d = g.lays.space in
-      let e = g.lays.stores.words-end in
-      let f = g.lays.stores.texts-end in
-      let l = r.small in
-      record { part = literal-part s t u g.tree p shape g.shown.refers; small = l; starts = g.shown.small; room = omega arith; space = omega arith }
-
-  pub special_ready : {C : Answer ℕ SpecializeParts} {u v : Current} {m y k z count : ℕ} {ws ts vs us qs ps : List ℕ} → SpecializeHeads s t (lent n ws x ts) u (lent m vs y us) count
-      → YieldsParts C s u (lent m vs y us) v (lent k qs z ps) → Ready s v k z
+  pub special_ready : {C : Answer ℕ SpecializeParts} {u v : Token} {b c : Lent} {count : ℕ} → SpecializeHeads s t a u b count → YieldsParts C s u b v c → Ready s v c
   special_ready {v = v} h g =
-      let a = r.room in
-      let b = r.space in
+      let p₁ = r.room in
+      let q₁ = r.space in
       let c = h.spare in
       let d = h.lists.lays.space in
       let e = h.lists.lays.stores.words-end in
@@ -255,7 +255,7 @@ module _ {s : List ℕ} {t : Current} {n x : ℕ} (r : Ready s t n x) where
 
 -- ------------------------------------------------------------------ sequences
 
-module _ {D : Answer ℕ (Expression ℕ)} {B : Answer ℕ (List (Item ℕ))} {s : List ℕ} {t u : Current} {a b : Lent} {m e p : ℕ} {shape : Shape} (y : YieldsItems B s t a u b m e p shape) where
+module _ {D : Answer ℕ (Expression ℕ)} {B : Answer ℕ (List (Item ℕ))} {s : List ℕ} {t u : Token} {a b : Lent} {m e p : ℕ} {shape : Shape} (y : YieldsItems B s t a u b m e p shape) where
   -- one expression alone
   pub sequence-alone : (start : ℕ) → D ≡ read (sequence_of start (slots [] y.lists.items)) (stream s u) → m ≡ 0 → e ≡ 1 → Yields D s t 0 1 a u b p shape
   sequence-alone start g z o =

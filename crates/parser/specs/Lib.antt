@@ -1,4 +1,3 @@
-pub mod Classes
 pub mod Storing
 pub mod Steps
 pub mod Shapes

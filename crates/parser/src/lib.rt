@@ -1,29 +1,28 @@
 // From the tokens of a text to the records of its tree: expressions, from `parse_braced_expression` to `parse_expression_choice`.
-// The functions call each other in a cycle: with each call the rest of the text is shorter, or it is the same and the function comes later in
-// the grammar. `left` is how many levels may still be entered.
+// The functions call each other in a cycle: with each call the rest of the text is shorter, or it is the same and the function comes
+// later in the grammar. `left` is how many levels may still be entered.
 #![tactic(auto)]
 
 pub mod store; // records and texts in what is lent
 pub mod props; // lists and props
 pub mod parts; // parts of rules and expressions
 
-ghost use Rattle.std.specs.Prelude.{◌≡◌, [], ◌+◌, ◌<◌};
+ghost use Rattle.std.specs.Prelude.{◌≡◌, [], ◌+◌, ◌<◌, Some};
 ghost use Rattle.tree.specs.Promise.{specialize_of};
 ghost use Rattle.tree.specs.Stored.{expression_branch};
 ghost use Rattle.notation.specs.Parser.{loop};
 ghost use Rattle.notation.specs.Expressions.{parse_item, parse_arm, parse_expression_inner, parse_expression_suffix, parse_expression_sequence, choice_at, parse_braced_expression, parse_inline_rule_expression, parse_specialize_expression, parse_parenthesized_expression, parse_arguments};
 ghost use Rattle.tokens.specs.Promise.{stream, start_in, name_of, at_of};
-ghost use Rattle.tokens.specs.declared.Part.TheVariants.{From};
-ghost use Rattle.parser.specs.Storing.{lent, nodes_of};
+ghost use Rattle.parser.specs.Storing.{lent_of, Kept, nodes_of};
 ghost use Rattle.parser.specs.Steps.{Onward, Ready, ParsesList};
 ghost use Rattle.parser.specs.Shapes.{IsToken, IsMark, Behind, inline_text, InlineName, specialize_parts, ParsesParts, named, name_arguments, arguments_list, ReadyArms, Expresses, ExpressesBraced, ExpressesArms, ExpressesItem, ExpressesItems};
 
-use crate::parts::{ArmsRead, Empty, Expressed, Headed, ItemRead, ItemsRead, Marked, Shape};
-use crate::props::{Comma, Listed, Opened, Parsed};
-use error::Cause;
-use lexer::Kind;
-use tokens::{Arrived, Current, Eaten, Part};
-use tree::SpecializeKind;
+use crate::parts::{Arms, Expressed, Item, Items, Shape};
+use crate::props::{Comma, Opened};
+use crate::store::Store;
+use error::{Cause, Stop};
+use lexer::{Kind, Part, Token};
+use tree::{NodeKind, SpecializeKind};
 
 // How many levels an expression in braces may have.
 pub const LEVELS: usize = 64;
@@ -33,58 +32,46 @@ pub const LEVELS: usize = 64;
 pub fn braced(
     source: &[u8],
     left: usize,
-    token: Current,
-    records: &mut [u32],
-    n: usize,
-    texts: &mut [u8],
-    x: usize,
-) -> Expressed
-    requires { Ready source.now token n x }
-    ensures { ExpressesBraced (parse_braced_expression (choice_at left) (stream source.now token)) source.now token
-        (lent n records.old x texts.old) records.new texts.new result }
+    token: Token,
+    store: &mut Store,
+) -> Result<Expressed, Stop>
+    requires { Ready source.now token (lent_of store.old) }
+    ensures kept { Kept store.old store.new }
+    ensures parses { ExpressesBraced (parse_braced_expression (choice_at left) (stream source.now token)) source.now token
+        (lent_of store.old) (lent_of store.new) result }
 {
-    let opened = tokens::expect_punctuation(source, token, 0x7B);
-    let Arrived::At(u) = opened else {
-        return Expressed::Refused(opened.cause(), opened.place());
-    };
-    let inside = parse_expression_choice(source, left, u, records, n, texts, x);
-    let Expressed::Done(v, m, y, p, shape) = inside else {
-        return inside;
-    };
-    let closed = tokens::expect_punctuation(source, v, 0x7D);
-    let Arrived::At(t) = closed else {
-        return Expressed::Refused(closed.cause(), closed.place());
-    };
-    Expressed::Done(t, m, y, p, shape)
+    let opened = tokens::expect_punctuation(source, token, 0x7B)?;
+    let inside = parse_expression_choice(source, left, opened, store)?;
+    let closed = tokens::expect_punctuation(source, inside.token, 0x7D)?;
+    Ok(Expressed {
+        token: closed,
+        ..inside
+    })
 }
 
 #[cycle(expressions)]
 pub fn parse_expression_inner(
     source: &[u8],
     left: usize,
-    token: Current,
-    records: &mut [u32],
-    n: usize,
-    texts: &mut [u8],
-    x: usize,
-) -> Expressed
-    requires { Ready source.now token n x }
-    ensures { Expresses (parse_expression_inner (choice_at left) (stream source.now token)) source.now token 1 0
-        (lent n records.old x texts.old) records.new texts.new result }
+    token: Token,
+    store: &mut Store,
+) -> Result<Expressed, Stop>
+    requires { Ready source.now token (lent_of store.old) }
+    ensures kept { Kept store.old store.new }
+    ensures parses { Expresses (parse_expression_inner (choice_at left) (stream source.now token)) source.now token 1 0
+        (lent_of store.old) (lent_of store.new) result }
 {
     match token {
-        Current::End(at) => Expressed::Refused(Cause::UnexpectedToken, at),
-        Current::Token(kind, _, _) => match kind {
-            Kind::String(_, a, e) => parts::parse_literal_expression(
-                source, token, a, e, records, n, texts, x,
-            ),
-            Kind::Set(inverted, a, e) => parts::parse_set_expression(
-                source, token, inverted, a, e, records, n, texts, x,
-            ),
-            Kind::At(a, e) => word(source, left, token, a, e, records, n, texts, x),
-            Kind::Identifier(a, e) => name(source, left, token, a, e, records, n, texts, x),
-            Kind::Punctuation(c) => mark(source, left, token, c, records, n, texts, x),
-        },
+        Token::Eof(_) => Err(tokens::unexpected(token)),
+        Token::Of(Kind::String(_, body), _, _) => {
+            parts::parse_literal_expression(source, token, body, store)
+        }
+        Token::Of(Kind::Set(inverted, body), _, _) => {
+            parts::parse_set_expression(source, token, inverted, body, store)
+        }
+        Token::Of(Kind::At(name), _, _) => word(source, left, token, name, store),
+        Token::Of(Kind::Identifier(text), _, _) => name(source, left, token, text, store),
+        Token::Of(Kind::Punctuation(c), _, _) => mark(source, left, token, c, store),
     }
 }
 
@@ -93,37 +80,22 @@ pub fn parse_expression_inner(
 fn mark(
     source: &[u8],
     left: usize,
-    token: Current,
+    token: Token,
     c: u32,
-    records: &mut [u32],
-    n: usize,
-    texts: &mut [u8],
-    x: usize,
-) -> Expressed
-    requires { Ready source.now token n x × IsMark token c }
-    ensures { Expresses (parse_expression_inner (choice_at left) (stream source.now token)) source.now token 1 0
-        (lent n records.old x texts.old) records.new texts.new result }
+    store: &mut Store,
+) -> Result<Expressed, Stop>
+    requires { Ready source.now token (lent_of store.old) × IsMark token c }
+    ensures kept { Kept store.old store.new }
+    ensures parses { Expresses (parse_expression_inner (choice_at left) (stream source.now token)) source.now token 1 0
+        (lent_of store.old) (lent_of store.new) result }
 {
     match c {
         0x28 => {
-            let arrived = tokens::next(source, token);
-            let Arrived::At(u) = arrived else {
-                return Expressed::Refused(arrived.cause(), arrived.place());
-            };
-            parens(source, left, token, u, records, n, texts, x)
+            let opened = tokens::next(source, token)?;
+            parens(source, left, token, opened, store)
         }
-        0x5B => inline(
-            source,
-            left,
-            token,
-            Part::Nothing,
-            token,
-            records,
-            n,
-            texts,
-            x,
-        ),
-        _ => Expressed::Refused(Cause::UnexpectedToken, tokens::start(token)),
+        0x5B => inline(source, left, token, None, token, store),
+        _ => Err(tokens::unexpected(token)),
     }
 }
 
@@ -132,53 +104,22 @@ fn mark(
 fn word(
     source: &[u8],
     left: usize,
-    token: Current,
-    a: usize,
-    e: usize,
-    records: &mut [u32],
-    n: usize,
-    texts: &mut [u8],
-    x: usize,
-) -> Expressed
-    requires { Ready source.now token n x × (at_of token ≡ From a e) }
-    ensures { Expresses (parse_expression_inner (choice_at left) (stream source.now token)) source.now token 1 0
-        (lent n records.old x texts.old) records.new texts.new result }
+    token: Token,
+    text: Part,
+    store: &mut Store,
+) -> Result<Expressed, Stop>
+    requires { Ready source.now token (lent_of store.old) × (at_of token ≡ Some text) }
+    ensures kept { Kept store.old store.new }
+    ensures parses { Expresses (parse_expression_inner (choice_at left) (stream source.now token)) source.now token 1 0
+        (lent_of store.old) (lent_of store.new) result }
 {
-    if lexer::words::spells(&source[a..e], b"specialize") {
-        return specialize(
-            source,
-            left,
-            token,
-            SpecializeKind::Specialize,
-            records,
-            n,
-            texts,
-            x,
-        );
+    if lexer::words::spells(text.of(source), b"specialize") {
+        return specialize(source, left, token, SpecializeKind::Specialize, store);
     }
-    if lexer::words::spells(&source[a..e], b"extend") {
-        return specialize(
-            source,
-            left,
-            token,
-            SpecializeKind::Extend,
-            records,
-            n,
-            texts,
-            x,
-        );
+    if lexer::words::spells(text.of(source), b"extend") {
+        return specialize(source, left, token, SpecializeKind::Extend, store);
     }
-    parts::parse_class(
-        source,
-        token,
-        tokens::start(token),
-        a,
-        e,
-        records,
-        n,
-        texts,
-        x,
-    )
+    parts::parse_class(source, token, tokens::start(token), text, store)
 }
 
 // At a name.
@@ -186,26 +127,20 @@ fn word(
 fn name(
     source: &[u8],
     left: usize,
-    token: Current,
-    a: usize,
-    e: usize,
-    records: &mut [u32],
-    n: usize,
-    texts: &mut [u8],
-    x: usize,
-) -> Expressed
-    requires { Ready source.now token n x × (name_of token ≡ From a e) }
-    ensures { Expresses (parse_expression_inner (choice_at left) (stream source.now token)) source.now token 1 0
-        (lent n records.old x texts.old) records.new texts.new result }
+    token: Token,
+    text: Part,
+    store: &mut Store,
+) -> Result<Expressed, Stop>
+    requires { Ready source.now token (lent_of store.old) × (name_of token ≡ Some text) }
+    ensures kept { Kept store.old store.new }
+    ensures parses { Expresses (parse_expression_inner (choice_at left) (stream source.now token)) source.now token 1 0
+        (lent_of store.old) (lent_of store.new) result }
 {
-    if lexer::words::spells(&source[a..e], b"_") {
-        return parts::parse_any(source, token, records, n, texts, x);
+    if lexer::words::spells(text.of(source), b"_") {
+        return parts::parse_any(source, token, store);
     }
-    let arrived = tokens::next(source, token);
-    let Arrived::At(u) = arrived else {
-        return Expressed::Refused(arrived.cause(), arrived.place());
-    };
-    named(source, left, token, a, e, u, records, n, texts, x)
+    let after = tokens::next(source, token)?;
+    named(source, left, token, text, after, store)
 }
 
 // After a name: an inline rule, a class of `std`, or a name with its arguments.
@@ -213,47 +148,23 @@ fn name(
 fn named(
     source: &[u8],
     left: usize,
-    name: Current,
-    a: usize,
-    e: usize,
-    token: Current,
-    records: &mut [u32],
-    n: usize,
-    texts: &mut [u8],
-    x: usize,
-) -> Expressed
-    requires { Ready source.now name n x × Behind source.now name token × (name_of name ≡ From a e) }
-    ensures { Expresses (named (choice_at left) source.now (start_in name) a e (stream source.now token)) source.now name 1 0
-        (lent n records.old x texts.old) records.new texts.new result }
+    name: Token,
+    text: Part,
+    token: Token,
+    store: &mut Store,
+) -> Result<Expressed, Stop>
+    requires { Ready source.now name (lent_of store.old) × Behind source.now name token × (name_of name ≡ Some text) }
+    ensures kept { Kept store.old store.new }
+    ensures parses { Expresses (named (choice_at left) source.now (start_in name) text (stream source.now token)) source.now name 1 0
+        (lent_of store.old) (lent_of store.new) result }
 {
     match tokens::mark(token) {
-        0x5B => inline(
-            source,
-            left,
-            name,
-            Part::From(a, e),
-            token,
-            records,
-            n,
-            texts,
-            x,
-        ),
-        0x7B => inline(
-            source,
-            left,
-            name,
-            Part::From(a, e),
-            token,
-            records,
-            n,
-            texts,
-            x,
-        ),
+        0x5B | 0x7B => inline(source, left, name, Some(text), token, store),
         _ => {
-            if parts::is_std(source, a, e, token) {
-                return parts::std_class(source, token, name, records, n, texts, x);
+            if parts::is_std(source, text, token) {
+                return parts::std_class(source, token, name, store);
             }
-            apply(source, left, name, a, e, token, records, n, texts, x)
+            apply(source, left, name, text, token, store)
         }
     }
 }
@@ -263,35 +174,24 @@ fn named(
 fn apply(
     source: &[u8],
     left: usize,
-    name: Current,
-    a: usize,
-    e: usize,
-    token: Current,
-    records: &mut [u32],
-    n: usize,
-    texts: &mut [u8],
-    x: usize,
-) -> Expressed
-    requires { Ready source.now name n x × Behind source.now name token × (name_of name ≡ From a e) }
-    ensures { Expresses (name_arguments (choice_at left) source.now (start_in name) a e (stream source.now token)) source.now name 1 0
-        (lent n records.old x texts.old) records.new texts.new result }
+    name: Token,
+    text: Part,
+    token: Token,
+    store: &mut Store,
+) -> Result<Expressed, Stop>
+    requires { Ready source.now name (lent_of store.old) × Behind source.now name token × (name_of name ≡ Some text) }
+    ensures kept { Kept store.old store.new }
+    ensures parses { Expresses (name_arguments (choice_at left) source.now (start_in name) text (stream source.now token)) source.now name 1 0
+        (lent_of store.old) (lent_of store.new) result }
 {
-    let listed = args(source, left, token, records, n, texts, x);
-    let Listed::Done(u, m, y, count) = listed else {
-        return Expressed::Refused(listed.cause(), listed.place());
-    };
-    let put = store::put_named(
-        &source[a..e],
-        30,
-        tokens::start(name),
-        0,
-        count,
-        records,
-        m,
-        texts,
-        y,
-    );
-    Expressed::Done(u, put.n, put.x, tokens::start(name), Shape::Name)
+    let (after, count) = args(source, left, token, store)?;
+    let start = tokens::start(name);
+    store.put_named(NodeKind::Name, start, text.of(source), 0, count);
+    Ok(Expressed {
+        token: after,
+        start,
+        shape: Shape::Name,
+    })
 }
 
 // `parse_parenthesized_expression`: after `(`, which is the token `first`.
@@ -299,35 +199,30 @@ fn apply(
 fn parens(
     source: &[u8],
     left: usize,
-    first: Current,
-    token: Current,
-    records: &mut [u32],
-    n: usize,
-    texts: &mut [u8],
-    x: usize,
-) -> Expressed
-    requires { Ready source.now first n x × Onward source.now first token 1 }
-    ensures { Expresses (parse_parenthesized_expression (choice_at left) (start_in first) (stream source.now token)) source.now first 1 0
-        (lent n records.old x texts.old) records.new texts.new result }
+    first: Token,
+    token: Token,
+    store: &mut Store,
+) -> Result<Expressed, Stop>
+    requires { Ready source.now first (lent_of store.old) × Onward source.now first token 1 }
+    ensures kept { Kept store.old store.new }
+    ensures parses { Expresses (parse_parenthesized_expression (choice_at left) (start_in first) (stream source.now token)) source.now first 1 0
+        (lent_of store.old) (lent_of store.new) result }
 {
-    match tokens::eat_punctuation(source, token, 0x29) {
-        Eaten::Refused(cause, at) => Expressed::Refused(cause, at),
-        Eaten::Yes(u) => {
-            let m = store::put_plain(records, n, 34, tokens::start(first), 1, 0);
-            Expressed::Done(u, m, x, tokens::start(first), Shape::Other)
-        }
-        Eaten::No => {
-            let inside = parse_expression_choice(source, left, token, records, n, texts, x);
-            let Expressed::Done(v, m, y, p, shape) = inside else {
-                return inside;
-            };
-            let closed = tokens::expect_punctuation(source, v, 0x29);
-            let Arrived::At(u) = closed else {
-                return Expressed::Refused(closed.cause(), closed.place());
-            };
-            Expressed::Done(u, m, y, p, shape)
-        }
+    if let Some(empty) = tokens::eat_punctuation(source, token, 0x29)? {
+        let start = tokens::start(first);
+        store.put_plain(NodeKind::Sequence, start, 1, 0);
+        return Ok(Expressed {
+            token: empty,
+            start,
+            shape: Shape::Other,
+        });
     }
+    let inside = parse_expression_choice(source, left, token, store)?;
+    let closed = tokens::expect_punctuation(source, inside.token, 0x29)?;
+    Ok(Expressed {
+        token: closed,
+        ..inside
+    })
 }
 
 // The two parts of a specialize that starts at `start`, and `>`.
@@ -336,47 +231,21 @@ fn pair(
     source: &[u8],
     left: usize,
     start: usize,
-    token: Current,
-    records: &mut [u32],
-    n: usize,
-    texts: &mut [u8],
-    x: usize,
-) -> Parsed
-    requires { Ready source.now token n x }
-    ensures { ParsesParts (specialize_parts (choice_at left) start (stream source.now token)) source.now token
-        (lent n records.old x texts.old) records.new texts.new result }
+    token: Token,
+    store: &mut Store,
+) -> Result<Token, Stop>
+    requires { Ready source.now token (lent_of store.old) }
+    ensures kept { Kept store.old store.new }
+    ensures parses { ParsesParts (specialize_parts (choice_at left) start (stream source.now token)) source.now token
+        (lent_of store.old) (lent_of store.new) result }
 {
-    let inside = parse_expression_choice(source, left, token, records, n, texts, x);
-    let Expressed::Done(u, m, y, p, shape) = inside else {
-        return Parsed::Refused(inside.cause(), inside.place());
+    let first = parse_expression_choice(source, left, token, store)?;
+    let Some(comma) = tokens::eat_punctuation(source, first.token, 0x2C)? else {
+        parts::parse_specialize_content(source, start, first.start, first.shape, store)?;
+        return tokens::expect_punctuation(source, first.token, 0x3E);
     };
-    match tokens::eat_punctuation(source, u, 0x2C) {
-        Eaten::Refused(cause, at) => Parsed::Refused(cause, at),
-        Eaten::Yes(v) => {
-            let second = parse_expression_choice(source, left, v, records, m, texts, y);
-            let Expressed::Done(w, k, z, _, _) = second else {
-                return Parsed::Refused(second.cause(), second.place());
-            };
-            let closed = tokens::expect_punctuation(source, w, 0x3E);
-            let Arrived::At(t) = closed else {
-                return Parsed::Refused(closed.cause(), closed.place());
-            };
-            Parsed::Done(t, k, z)
-        }
-        Eaten::No => {
-            let content = parts::parse_specialize_content(
-                source, u, start, p, shape, records, m, texts, y,
-            );
-            let Parsed::Done(_, k, z) = content else {
-                return content;
-            };
-            let closed = tokens::expect_punctuation(source, u, 0x3E);
-            let Arrived::At(t) = closed else {
-                return Parsed::Refused(closed.cause(), closed.place());
-            };
-            Parsed::Done(t, k, z)
-        }
-    }
+    let second = parse_expression_choice(source, left, comma, store)?;
+    tokens::expect_punctuation(source, second.token, 0x3E)
 }
 
 // `parse_specialize_expression`: at `@specialize` or `@extend`.
@@ -384,34 +253,24 @@ fn pair(
 fn specialize(
     source: &[u8],
     left: usize,
-    token: Current,
+    token: Token,
     kind: SpecializeKind,
-    records: &mut [u32],
-    n: usize,
-    texts: &mut [u8],
-    x: usize,
-) -> Expressed
-    requires { Ready source.now token n x × IsToken token }
-    ensures { Expresses (parse_specialize_expression (choice_at left) (start_in token) (specialize_of kind) (stream source.now token)) source.now token 1 0
-        (lent n records.old x texts.old) records.new texts.new result }
+    store: &mut Store,
+) -> Result<Expressed, Stop>
+    requires { Ready source.now token (lent_of store.old) × IsToken token }
+    ensures kept { Kept store.old store.new }
+    ensures parses { Expresses (parse_specialize_expression (choice_at left) (start_in token) (specialize_of kind) (stream source.now token)) source.now token 1 0
+        (lent_of store.old) (lent_of store.new) result }
 {
-    let head = parts::specialize_head(source, token, records, n, texts, x);
-    let Listed::Done(u, m, y, count) = head else {
-        return Expressed::Refused(head.cause(), head.place());
-    };
-    let parsed = pair(source, left, tokens::start(token), u, records, m, texts, y);
-    let Parsed::Done(v, k, z) = parsed else {
-        return Expressed::Refused(parsed.cause(), parsed.place());
-    };
-    let w = store::put_plain(
-        records,
-        k,
-        31,
-        tokens::start(token),
-        tree::specialize_value(kind),
-        count + 2,
-    );
-    Expressed::Done(v, w, z, tokens::start(token), Shape::Other)
+    let start = tokens::start(token);
+    let (head, count) = parts::specialize_head(source, token, store)?;
+    let closed = pair(source, left, start, head, store)?;
+    store.put_plain(NodeKind::Specialize, start, kind.value(), count + 2);
+    Ok(Expressed {
+        token: closed,
+        start,
+        shape: Shape::Other,
+    })
 }
 
 // `parse_inline_rule_expression`: from its props or its brace on. Its first token is its name, or its bracket where it has none.
@@ -419,77 +278,49 @@ fn specialize(
 fn inline(
     source: &[u8],
     left: usize,
-    first: Current,
-    name: Part,
-    token: Current,
-    records: &mut [u32],
-    n: usize,
-    texts: &mut [u8],
-    x: usize,
-) -> Expressed
-    requires { Ready source.now first n x × InlineName source.now first name token }
-    ensures { Expresses (parse_inline_rule_expression (choice_at left) (start_in first) (inline_text source.now name) (stream source.now token)) source.now first 1 0
-        (lent n records.old x texts.old) records.new texts.new result }
+    first: Token,
+    name: Option<Part>,
+    token: Token,
+    store: &mut Store,
+) -> Result<Expressed, Stop>
+    requires { Ready source.now first (lent_of store.old) × InlineName source.now first name token }
+    ensures kept { Kept store.old store.new }
+    ensures parses { Expresses (parse_inline_rule_expression (choice_at left) (start_in first) (inline_text source.now name) (stream source.now token)) source.now first 1 0
+        (lent_of store.old) (lent_of store.new) result }
 {
-    let head = parts::rule_head(source, token, records, n, texts, x);
-    let Headed::Done(u, m, y, count, params) = head else {
-        return Expressed::Refused(head.cause(), head.place());
-    };
-    let inside = braced(source, left, u, records, m, texts, y);
-    let Expressed::Done(v, k, z, _, _) = inside else {
-        return inside;
-    };
-    if params != 0 {
-        return Expressed::Refused(Cause::InlineParameters, tokens::start(first));
+    let start = tokens::start(first);
+    let head = parts::rule_head(source, token, store)?;
+    let body = braced(source, left, head.token, store)?;
+    if head.params != 0 {
+        return Err(Stop {
+            cause: Cause::InlineParameters,
+            place: start,
+        });
     }
-    let put = parts::put_inline(
-        source,
-        name,
-        tokens::start(first),
-        count + 1,
-        records,
-        k,
-        texts,
-        z,
-    );
-    Expressed::Done(v, put.n, put.x, tokens::start(first), Shape::Other)
+    parts::put_inline(source, name, start, head.props + 1, store);
+    Ok(Expressed {
+        token: body.token,
+        start,
+        shape: Shape::Other,
+    })
 }
 
 // Arguments after `<`.
 #[cycle(expressions)]
-fn list(
-    source: &[u8],
-    left: usize,
-    token: Current,
-    records: &mut [u32],
-    n: usize,
-    texts: &mut [u8],
-    x: usize,
-) -> Listed
-    requires { Ready source.now token n x }
-    ensures { ParsesList (arguments_list (choice_at left) (stream source.now token)) (nodes_of expression_branch) source.now token 1
-        (lent n records.old x texts.old) records.new texts.new result }
+fn list(source: &[u8], left: usize, token: Token, store: &mut Store) -> Result<(Token, usize), Stop>
+    requires { Ready source.now token (lent_of store.old) }
+    ensures kept { Kept store.old store.new }
+    ensures parses { ParsesList (arguments_list (choice_at left) (stream source.now token)) (nodes_of expression_branch) source.now token 1
+        (lent_of store.old) (lent_of store.new) result }
 {
     let mut t = token;
-    let mut m = n;
-    let mut y = x;
-    let mut count: usize = 0;
+    let mut count = 0;
     loop {
-        match props::opening(source, t, 0x3E, Comma::Must, count) {
-            Opened::Closed(u) => {
-                return Listed::Done(u, m, y, count);
-            }
-            Opened::Refused(cause, at) => {
-                return Listed::Refused(cause, at);
-            }
-            Opened::Item(u) => {
-                let argument = parse_expression_choice(source, left, u, records, m, texts, y);
-                let Expressed::Done(v, k, z, _, _) = argument else {
-                    return Listed::Refused(argument.cause(), argument.place());
-                };
-                t = v;
-                m = k;
-                y = z;
+        match props::opening(source, t, 0x3E, Comma::Must, count)? {
+            Opened::Closed(after) => return Ok((after, count)),
+            Opened::Item(item) => {
+                let argument = parse_expression_choice(source, left, item, store)?;
+                t = argument.token;
                 count += 1;
             }
         }
@@ -498,23 +329,15 @@ fn list(
 
 // `parse_arguments`: those of a name, none where no `<` follows.
 #[cycle(expressions)]
-fn args(
-    source: &[u8],
-    left: usize,
-    token: Current,
-    records: &mut [u32],
-    n: usize,
-    texts: &mut [u8],
-    x: usize,
-) -> Listed
-    requires { Ready source.now token n x }
-    ensures { ParsesList (parse_arguments (choice_at left) (stream source.now token)) (nodes_of expression_branch) source.now token 0
-        (lent n records.old x texts.old) records.new texts.new result }
+fn args(source: &[u8], left: usize, token: Token, store: &mut Store) -> Result<(Token, usize), Stop>
+    requires { Ready source.now token (lent_of store.old) }
+    ensures kept { Kept store.old store.new }
+    ensures parses { ParsesList (parse_arguments (choice_at left) (stream source.now token)) (nodes_of expression_branch) source.now token 0
+        (lent_of store.old) (lent_of store.new) result }
 {
-    match tokens::eat_punctuation(source, token, 0x3C) {
-        Eaten::Refused(cause, at) => Listed::Refused(cause, at),
-        Eaten::No => Listed::Done(token, n, x, 0),
-        Eaten::Yes(u) => list(source, left, u, records, n, texts, x),
+    match tokens::eat_punctuation(source, token, 0x3C)? {
+        Some(after) => list(source, left, after, store),
+        None => Ok((token, 0)),
     }
 }
 
@@ -522,117 +345,81 @@ fn args(
 fn parse_expression_suffix(
     source: &[u8],
     left: usize,
-    token: Current,
-    records: &mut [u32],
-    n: usize,
-    texts: &mut [u8],
-    x: usize,
-) -> Expressed
-    requires { Ready source.now token n x }
-    ensures { Expresses (parse_expression_suffix (choice_at left) (stream source.now token)) source.now token 1 0
-        (lent n records.old x texts.old) records.new texts.new result }
+    token: Token,
+    store: &mut Store,
+) -> Result<Expressed, Stop>
+    requires { Ready source.now token (lent_of store.old) }
+    ensures kept { Kept store.old store.new }
+    ensures parses { Expresses (parse_expression_suffix (choice_at left) (stream source.now token)) source.now token 1 0
+        (lent_of store.old) (lent_of store.new) result }
 {
-    let inner = parse_expression_inner(source, left, token, records, n, texts, x);
-    let Expressed::Done(u, m, y, p, shape) = inner else {
-        return inner;
-    };
-    let repeated = parts::parse_repeats(
-        source,
-        u,
-        tokens::start(token),
-        parts::stack(shape),
-        records,
-        m,
-        texts,
-        y,
-    );
-    let Listed::Done(v, k, z, count) = repeated else {
-        return Expressed::Refused(repeated.cause(), repeated.place());
-    };
+    let start = tokens::start(token);
+    let inner = parse_expression_inner(source, left, token, store)?;
+    let stack = inner.shape.stack();
+    let (after, count) = parts::parse_repeats(source, inner.token, start, stack, store)?;
     if count == 0 {
-        return Expressed::Done(v, k, z, p, shape);
+        return Ok(Expressed {
+            token: after,
+            ..inner
+        });
     }
-    Expressed::Done(
-        v,
-        k,
-        z,
-        tokens::start(token),
-        Shape::Repeat(parts::stack(shape) + count),
-    )
+    Ok(Expressed {
+        token: after,
+        start,
+        shape: Shape::Repeat(stack + count),
+    })
 }
 
 // A marker, an expression, or the sequence's end.
 #[cycle(expressions)]
-fn item(
-    source: &[u8],
-    left: usize,
-    token: Current,
-    records: &mut [u32],
-    n: usize,
-    texts: &mut [u8],
-    x: usize,
-) -> ItemRead
-    requires { Ready source.now token n x }
-    ensures { ExpressesItem (parse_item (choice_at left) [] (stream source.now token)) source.now token
-        (lent n records.old x texts.old) records.new texts.new result }
+fn item(source: &[u8], left: usize, token: Token, store: &mut Store) -> Result<Item, Stop>
+    requires { Ready source.now token (lent_of store.old) }
+    ensures kept { Kept store.old store.new }
+    ensures parses { ExpressesItem (parse_item (choice_at left) [] (stream source.now token)) source.now token
+        (lent_of store.old) (lent_of store.new) result }
 {
-    match parts::marker_kind(tokens::mark(token)) {
-        Marked::Kind(kind) => parts::parse_marker(source, token, kind, records, n, texts, x),
-        Marked::Missing => {
-            if parts::ends_sequence(token) {
-                return ItemRead::End;
-            }
-            let suffixed = parse_expression_suffix(source, left, token, records, n, texts, x);
-            let Expressed::Done(u, m, y, p, shape) = suffixed else {
-                return ItemRead::Refused(suffixed.cause(), suffixed.place());
-            };
-            ItemRead::Expression(u, m, y, p, shape)
-        }
+    if let Some(kind) = parts::marker_kind(tokens::mark(token)) {
+        return parts::parse_marker(source, token, kind, store);
     }
+    if parts::ends_sequence(token) {
+        return Ok(Item::End);
+    }
+    let suffixed = parse_expression_suffix(source, left, token, store)?;
+    Ok(Item::Expression(suffixed))
 }
 
 // Markers and expressions up to the sequence's end.
 #[cycle(expressions)]
-fn items(
-    source: &[u8],
-    left: usize,
-    token: Current,
-    records: &mut [u32],
-    n: usize,
-    texts: &mut [u8],
-    x: usize,
-) -> ItemsRead
-    requires { Ready source.now token n x }
-    ensures { ExpressesItems (loop (parse_item (choice_at left)) (stream source.now token)) source.now token
-        (lent n records.old x texts.old) records.new texts.new result }
+fn items(source: &[u8], left: usize, token: Token, store: &mut Store) -> Result<Items, Stop>
+    requires { Ready source.now token (lent_of store.old) }
+    ensures kept { Kept store.old store.new }
+    ensures parses { ExpressesItems (loop (parse_item (choice_at left)) (stream source.now token)) source.now token
+        (lent_of store.old) (lent_of store.new) result }
 {
     let mut t = token;
-    let mut m = n;
-    let mut y = x;
-    let mut markers: usize = 0;
-    let mut expressions: usize = 0;
-    let mut p: usize = 0;
+    let mut markers = 0;
+    let mut expressions = 0;
+    let mut start = 0;
     let mut shape = Shape::Other;
     loop {
-        match item(source, left, t, records, m, texts, y) {
-            ItemRead::Refused(cause, at) => {
-                return ItemsRead::Refused(cause, at);
+        match item(source, left, t, store)? {
+            Item::End => {
+                return Ok(Items {
+                    token: t,
+                    markers,
+                    expressions,
+                    start,
+                    shape,
+                });
             }
-            ItemRead::End => {
-                return ItemsRead::Done(t, m, y, markers, expressions, p, shape);
-            }
-            ItemRead::Marker(u, k, z) => {
-                t = u;
-                m = k;
-                y = z;
+            Item::Marker(after) => {
+                t = after;
                 markers += 1;
             }
-            ItemRead::Expression(u, k, z, q, f) => {
-                t = u;
-                m = k;
-                y = z;
-                p = q;
-                shape = f;
+            Item::Expression(expressed) => {
+                t = expressed.token;
+                start = expressed.start;
+                shape = expressed.shape;
                 expressions += 1;
             }
         }
@@ -643,83 +430,58 @@ fn items(
 fn parse_expression_sequence(
     source: &[u8],
     left: usize,
-    token: Current,
-    records: &mut [u32],
-    n: usize,
-    texts: &mut [u8],
-    x: usize,
-) -> Expressed
-    requires { Ready source.now token n x }
-    ensures { Expresses (parse_expression_sequence (choice_at left) (stream source.now token)) source.now token 0 1
-        (lent n records.old x texts.old) records.new texts.new result }
+    token: Token,
+    store: &mut Store,
+) -> Result<Expressed, Stop>
+    requires { Ready source.now token (lent_of store.old) }
+    ensures kept { Kept store.old store.new }
+    ensures parses { Expresses (parse_expression_sequence (choice_at left) (stream source.now token)) source.now token 0 1
+        (lent_of store.old) (lent_of store.new) result }
 {
-    let read = items(source, left, token, records, n, texts, x);
-    let ItemsRead::Done(u, m, y, markers, expressions, p, shape) = read else {
-        return Expressed::Refused(read.cause(), read.place());
-    };
-    if markers == 0 {
-        if expressions == 1 {
-            return Expressed::Done(u, m, y, p, shape);
-        }
+    let read = items(source, left, token, store)?;
+    if read.markers == 0 && read.expressions == 1 {
+        return Ok(Expressed {
+            token: read.token,
+            start: read.start,
+            shape: read.shape,
+        });
     }
-    let k = store::put_plain(
-        records,
-        m,
-        34,
-        tokens::start(token),
+    let start = tokens::start(token);
+    store.put_plain(
+        NodeKind::Sequence,
+        start,
         0,
-        markers + expressions,
+        read.markers + read.expressions,
     );
-    Expressed::Done(
-        u,
-        k,
-        y,
-        tokens::start(token),
-        parts::sequence_shape(expressions),
-    )
+    Ok(Expressed {
+        token: read.token,
+        start,
+        shape: parts::sequence_shape(read.expressions),
+    })
 }
 
 // The arms behind the first.
 #[cycle(expressions)]
-fn arms(
-    source: &[u8],
-    left: usize,
-    token: Current,
-    records: &mut [u32],
-    n: usize,
-    texts: &mut [u8],
-    x: usize,
-) -> ArmsRead
-    requires { ReadyArms source.now token n x }
-    ensures { ExpressesArms (loop (parse_arm (choice_at left)) (stream source.now token)) source.now token
-        (lent n records.old x texts.old) records.new texts.new result }
+fn arms(source: &[u8], left: usize, token: Token, store: &mut Store) -> Result<Arms, Stop>
+    requires { ReadyArms source.now token (lent_of store.old) }
+    ensures kept { Kept store.old store.new }
+    ensures parses { ExpressesArms (loop (parse_arm (choice_at left)) (stream source.now token)) source.now token
+        (lent_of store.old) (lent_of store.new) result }
 {
     let mut t = token;
-    let mut m = n;
-    let mut y = x;
-    let mut count: usize = 0;
-    let mut empty = Empty::None;
-    loop {
-        match tokens::eat_punctuation(source, t, 0x7C) {
-            Eaten::Refused(cause, at) => {
-                return ArmsRead::Refused(cause, at);
-            }
-            Eaten::No => {
-                return ArmsRead::Done(t, m, y, count, empty);
-            }
-            Eaten::Yes(u) => {
-                let arm = parse_expression_sequence(source, left, u, records, m, texts, y);
-                let Expressed::Done(v, k, z, p, shape) = arm else {
-                    return ArmsRead::Refused(arm.cause(), arm.place());
-                };
-                t = v;
-                m = k;
-                y = z;
-                count += 1;
-                empty = parts::first_empty(empty, p, shape);
-            }
-        }
+    let mut count = 0;
+    let mut empty = None;
+    while let Some(bar) = tokens::eat_punctuation(source, t, 0x7C)? {
+        let arm = parse_expression_sequence(source, left, bar, store)?;
+        t = arm.token;
+        count += 1;
+        empty = parts::first_empty(empty, arm.start, arm.shape);
     }
+    Ok(Arms {
+        token: t,
+        count,
+        empty,
+    })
 }
 
 // A level is one entry here.
@@ -727,35 +489,39 @@ fn arms(
 pub fn parse_expression_choice(
     source: &[u8],
     left: usize,
-    token: Current,
-    records: &mut [u32],
-    n: usize,
-    texts: &mut [u8],
-    x: usize,
-) -> Expressed
-    requires { Ready source.now token n x }
-    ensures { Expresses (choice_at left (stream source.now token)) source.now token 0 2
-        (lent n records.old x texts.old) records.new texts.new result }
+    token: Token,
+    store: &mut Store,
+) -> Result<Expressed, Stop>
+    requires { Ready source.now token (lent_of store.old) }
+    ensures kept { Kept store.old store.new }
+    ensures parses { Expresses (choice_at left (stream source.now token)) source.now token 0 2
+        (lent_of store.old) (lent_of store.new) result }
 {
+    let start = tokens::start(token);
     if left == 0 {
-        return Expressed::Refused(Cause::TooDeep, tokens::start(token));
+        return Err(Stop {
+            cause: Cause::TooDeep,
+            place: start,
+        });
     }
-    let first = parse_expression_sequence(source, left - 1, token, records, n, texts, x);
-    let Expressed::Done(u, m, y, p, shape) = first else {
-        return first;
-    };
-    let others = arms(source, left - 1, u, records, m, texts, y);
-    let ArmsRead::Done(v, k, z, count, empty) = others else {
-        return Expressed::Refused(others.cause(), others.place());
-    };
-    if count == 0 {
-        return Expressed::Done(v, k, z, p, shape);
+    let first = parse_expression_sequence(source, left - 1, token, store)?;
+    let others = arms(source, left - 1, first.token, store)?;
+    if others.count == 0 {
+        return Ok(Expressed {
+            token: others.token,
+            ..first
+        });
     }
-    match parts::first_of(p, shape, empty) {
-        Empty::At(at) => Expressed::Refused(Cause::EmptyArm, at),
-        Empty::None => {
-            let w = store::put_plain(records, k, 33, tokens::start(token), 0, count + 1);
-            Expressed::Done(v, w, z, tokens::start(token), Shape::Other)
-        }
+    if let Some(place) = parts::first_of(first.start, first.shape, others.empty) {
+        return Err(Stop {
+            cause: Cause::EmptyArm,
+            place,
+        });
     }
+    store.put_plain(NodeKind::Choice, start, 0, others.count + 1);
+    Ok(Expressed {
+        token: others.token,
+        start,
+        shape: Shape::Other,
+    })
 }

@@ -1,91 +1,26 @@
 // Lists and props: `parse_props`, `parse_prop`.
-ghost use Rattle.std.specs.Prelude.{◌≡◌, [], ◌<◌, length};
+ghost use Rattle.std.specs.Prelude.{◌≡◌, [], ◌<◌, length, Some};
 ghost use Rattle.tree.specs.Stored.{part_branch, prop_branch};
 ghost use Rattle.notation.specs.Expressions.{parse_part, parse_prop, parse_props};
 ghost use Rattle.notation.specs.Parser.{loop};
-ghost use Rattle.tokens.specs.declared.Part.TheVariants.{From};
 ghost use Rattle.tokens.specs.Promise.{stream, mark_of, string_of, LiesIn};
-ghost use Rattle.parser.specs.Storing.{lent, nodes_of};
-ghost use Rattle.parser.specs.Steps.{parsed_cause, parsed_place, listed_cause, listed_place, Ready, Parses, ParsesTurn, ParsesList, between_by, comma_step, step_by, separator as separator_d, Separates, Opens, PartValue, parse_value, PropName, props_list};
+ghost use Rattle.parser.specs.Storing.{lent_of, Kept, nodes_of};
+ghost use Rattle.parser.specs.Steps.{Ready, Parses, ParsesTurn, ParsesList, between_by, comma_step, step_by, separator as separator_d, Separates, Opens, PartValue, parse_value, PropName, props_list};
 
-use crate::store;
-use error::Cause;
-use lexer::Kind;
-use tokens::{Arrived, Current, Eaten, Part, Taken};
+use crate::store::Store;
+use error::Stop;
+use lexer::{Kind, Part, Token};
+use tree::NodeKind;
 
-// What was read is stored: the current token after it, and how many words and bytes are taken.
-#[derive(Clone, Copy)]
-pub enum Parsed {
-    Done(Current, usize, usize),
-    Refused(Cause, usize),
-}
-
-// The same of a list, with its length.
-#[derive(Clone, Copy)]
-pub enum Listed {
-    Done(Current, usize, usize, usize),
-    Refused(Cause, usize),
-}
-
-// The same of a turn of a loop that ends where nothing more is found.
-#[derive(Clone, Copy)]
-pub enum Turn {
-    More(Current, usize, usize),
-    Over,
-    Refused(Cause, usize),
-}
-
-// Whether a list goes on with an item, or is closed.
-#[derive(Clone, Copy)]
+// Whether a list goes on with an item, or is closed: the token there, or behind it.
+#[derive(Clone, Copy, Debug, PartialEq, Eq)]
 pub enum Opened {
-    Item(Current),
-    Closed(Current),
-    Refused(Cause, usize),
-}
-
-// What an answer that is a refusal says, as of the tokens' answers.
-impl Parsed {
-    pub fn cause(self) -> Cause
-        ensures { result ≡ parsed_cause self }
-    {
-        match self {
-            Parsed::Done(_, _, _) => Cause::UnexpectedToken,
-            Parsed::Refused(cause, _) => cause,
-        }
-    }
-
-    pub fn place(self) -> usize
-        ensures { result ≡ parsed_place self }
-    {
-        match self {
-            Parsed::Done(_, _, _) => 0,
-            Parsed::Refused(_, at) => at,
-        }
-    }
-}
-
-impl Listed {
-    pub fn cause(self) -> Cause
-        ensures { result ≡ listed_cause self }
-    {
-        match self {
-            Listed::Done(_, _, _, _) => Cause::UnexpectedToken,
-            Listed::Refused(cause, _) => cause,
-        }
-    }
-
-    pub fn place(self) -> usize
-        ensures { result ≡ listed_place self }
-    {
-        match self {
-            Listed::Done(_, _, _, _) => 0,
-            Listed::Refused(_, at) => at,
-        }
-    }
+    Item(Token),
+    Closed(Token),
 }
 
 // What stands between the items of a list: a comma that must be there, one that may, nothing.
-#[derive(Clone, Copy)]
+#[derive(Clone, Copy, Debug, PartialEq, Eq)]
 pub enum Comma {
     Must,
     May,
@@ -93,329 +28,209 @@ pub enum Comma {
 }
 
 // What stands between two items.
-pub fn between(source: &[u8], token: Current, comma: Comma) -> Arrived
+pub fn between(source: &[u8], token: Token, comma: Comma) -> Result<Token, Stop>
     requires { LiesIn source.now 0 token }
     ensures { Separates source.now token (between_by comma) (comma_step comma) result }
 {
     match comma {
         Comma::Must => tokens::expect_punctuation(source, token, 0x2C),
-        Comma::May => match tokens::eat_punctuation(source, token, 0x2C) {
-            Eaten::Yes(u) => Arrived::At(u),
-            Eaten::No => Arrived::At(token),
-            Eaten::Refused(cause, at) => Arrived::Refused(cause, at),
-        },
-        Comma::No => Arrived::At(token),
+        Comma::May => {
+            let after = tokens::eat_punctuation(source, token, 0x2C)?;
+            Ok(after.unwrap_or(token))
+        }
+        Comma::No => Ok(token),
     }
 }
 
 // What stands before the next of so many items.
-fn separator(source: &[u8], token: Current, comma: Comma, count: usize) -> Arrived
+fn separator(source: &[u8], token: Token, comma: Comma, count: usize) -> Result<Token, Stop>
     requires { LiesIn source.now 0 token }
     ensures { Separates source.now token (separator_d comma count) (step_by comma count) result }
 {
     if count == 0 {
-        return Arrived::At(token);
+        return Ok(token);
     }
     between(source, token, comma)
 }
 
 // The front of a list's turn.
-pub fn opening(source: &[u8], token: Current, close: u32, comma: Comma, count: usize) -> Opened
+pub fn opening(
+    source: &[u8],
+    token: Token,
+    close: u32,
+    comma: Comma,
+    count: usize,
+) -> Result<Opened, Stop>
     requires { LiesIn source.now 0 token × (0 < close) }
     ensures { Opens source.now token close comma count result }
 {
-    match tokens::eat_punctuation(source, token, close) {
-        Eaten::Yes(u) => Opened::Closed(u),
-        Eaten::Refused(cause, at) => Opened::Refused(cause, at),
-        Eaten::No => {
-            let arrived = separator(source, token, comma, count);
-            let Arrived::At(u) = arrived else {
-                return Opened::Refused(arrived.cause(), arrived.place());
-            };
-            Opened::Item(u)
-        }
+    if let Some(after) = tokens::eat_punctuation(source, token, close)? {
+        return Ok(Opened::Closed(after));
     }
+    let item = separator(source, token, comma, count)?;
+    Ok(Opened::Item(item))
 }
 
 // A part with these bytes for its text: the token is taken.
 fn part_value(
     source: &[u8],
-    token: Current,
+    token: Token,
     text: &[u8],
-    records: &mut [u32],
-    n: usize,
-    texts: &mut [u8],
-    x: usize,
-) -> Turn
-    requires { Ready source.now token n x × PartValue source.now token text.now }
-    ensures { ParsesTurn (parse_part [] (stream source.now token)) (nodes_of part_branch) source.now token
-        (lent n records.old x texts.old) records.new texts.new result }
+    store: &mut Store,
+) -> Result<Option<Token>, Stop>
+    requires { Ready source.now token (lent_of store.old) × PartValue source.now token text.now }
+    ensures kept { Kept store.old store.new }
+    ensures parses { ParsesTurn (parse_part [] (stream source.now token)) (nodes_of part_branch) source.now token
+        (lent_of store.old) (lent_of store.new) result }
 {
-    let arrived = tokens::next(source, token);
-    let Arrived::At(u) = arrived else {
-        return Turn::Refused(arrived.cause(), arrived.place());
-    };
-    let put = store::put_named(text, 6, tokens::start(token), 0, 0, records, n, texts, x);
-    Turn::More(u, put.n, put.x)
+    let after = tokens::next(source, token)?;
+    store.put_named(NodeKind::PartText, tokens::start(token), text, 0, 0);
+    Ok(Some(after))
 }
 
 // A part that is a string.
 fn part_string(
     source: &[u8],
-    token: Current,
-    a: usize,
-    e: usize,
-    records: &mut [u32],
-    n: usize,
-    texts: &mut [u8],
-    x: usize,
-) -> Turn
-    requires { Ready source.now token n x × (string_of token ≡ From a e) }
-    ensures { ParsesTurn (parse_part [] (stream source.now token)) (nodes_of part_branch) source.now token
-        (lent n records.old x texts.old) records.new texts.new result }
+    token: Token,
+    body: Part,
+    store: &mut Store,
+) -> Result<Option<Token>, Stop>
+    requires { Ready source.now token (lent_of store.old) × (string_of token ≡ Some body) }
+    ensures kept { Kept store.old store.new }
+    ensures parses { ParsesTurn (parse_part [] (stream source.now token)) (nodes_of part_branch) source.now token
+        (lent_of store.old) (lent_of store.new) result }
 {
-    let arrived = tokens::next(source, token);
-    let Arrived::At(u) = arrived else {
-        return Turn::Refused(arrived.cause(), arrived.place());
-    };
-    let put = store::put_string(
-        &source[a..e],
-        6,
-        tokens::start(token),
-        0,
-        records,
-        n,
-        texts,
-        x,
-    );
-    Turn::More(u, put.n, put.x)
+    let after = tokens::next(source, token)?;
+    store.put_string(NodeKind::PartText, tokens::start(token), body.of(source), 0);
+    Ok(Some(after))
 }
 
 // A part `{name}`, at its brace.
-fn part_braced(
-    source: &[u8],
-    token: Current,
-    records: &mut [u32],
-    n: usize,
-    texts: &mut [u8],
-    x: usize,
-) -> Turn
-    requires { Ready source.now token n x × (mark_of token ≡ 0x7B) }
-    ensures { ParsesTurn (parse_part [] (stream source.now token)) (nodes_of part_branch) source.now token
-        (lent n records.old x texts.old) records.new texts.new result }
+fn part_braced(source: &[u8], token: Token, store: &mut Store) -> Result<Option<Token>, Stop>
+    requires { Ready source.now token (lent_of store.old) × (mark_of token ≡ 0x7B) }
+    ensures kept { Kept store.old store.new }
+    ensures parses { ParsesTurn (parse_part [] (stream source.now token)) (nodes_of part_branch) source.now token
+        (lent_of store.old) (lent_of store.new) result }
 {
-    let arrived = tokens::next(source, token);
-    let Arrived::At(u) = arrived else {
-        return Turn::Refused(arrived.cause(), arrived.place());
-    };
-    let taken = tokens::parse_identifier(source, u);
-    let Taken::Got(a, e, v) = taken else {
-        return Turn::Refused(taken.cause(), taken.place());
-    };
-    let closed = tokens::expect_punctuation(source, v, 0x7D);
-    let Arrived::At(w) = closed else {
-        return Turn::Refused(closed.cause(), closed.place());
-    };
-    let put = store::put_named(
-        &source[a..e],
-        7,
+    let opened = tokens::next(source, token)?;
+    let (name, named) = tokens::parse_identifier(source, opened)?;
+    let closed = tokens::expect_punctuation(source, named, 0x7D)?;
+    store.put_named(
+        NodeKind::PartName,
         tokens::start(token),
+        name.of(source),
         0,
         0,
-        records,
-        n,
-        texts,
-        x,
     );
-    Turn::More(w, put.n, put.x)
+    Ok(Some(closed))
 }
 
 // A part of a prop's value, or none.
-fn parse_part(
-    source: &[u8],
-    token: Current,
-    records: &mut [u32],
-    n: usize,
-    texts: &mut [u8],
-    x: usize,
-) -> Turn
-    requires { Ready source.now token n x }
-    ensures { ParsesTurn (parse_part [] (stream source.now token)) (nodes_of part_branch) source.now token
-        (lent n records.old x texts.old) records.new texts.new result }
+fn parse_part(source: &[u8], token: Token, store: &mut Store) -> Result<Option<Token>, Stop>
+    requires { Ready source.now token (lent_of store.old) }
+    ensures kept { Kept store.old store.new }
+    ensures parses { ParsesTurn (parse_part [] (stream source.now token)) (nodes_of part_branch) source.now token
+        (lent_of store.old) (lent_of store.new) result }
 {
     match token {
-        Current::End(_) => Turn::Over,
-        Current::Token(kind, _, _) => match kind {
-            Kind::String(_, a, e) => part_string(source, token, a, e, records, n, texts, x),
-            Kind::Identifier(a, e) => part_value(
-                source,
-                token,
-                &source[a..e],
-                records,
-                n,
-                texts,
-                x,
-            ),
-            Kind::At(_, _) => Turn::Over,
-            Kind::Set(_, _, _) => Turn::Over,
+        Token::Eof(_) => Ok(None),
+        Token::Of(kind, _, _) => match kind {
+            Kind::String(_, body) => part_string(source, token, body, store),
+            Kind::Identifier(name) => part_value(source, token, name.of(source), store),
+            Kind::At(_) => Ok(None),
+            Kind::Set(_, _) => Ok(None),
             Kind::Punctuation(c) => match c {
-                0x2E => part_value(source, token, b".", records, n, texts, x),
-                0x7B => part_braced(source, token, records, n, texts, x),
-                _ => Turn::Over,
+                0x2E => part_value(source, token, b".", store),
+                0x7B => part_braced(source, token, store),
+                _ => Ok(None),
             },
         },
     }
 }
 
 // The parts of a prop's value.
-fn parse_parts(
-    source: &[u8],
-    token: Current,
-    records: &mut [u32],
-    n: usize,
-    texts: &mut [u8],
-    x: usize,
-) -> Listed
-    requires { Ready source.now token n x }
-    ensures { ParsesList (loop parse_part (stream source.now token)) (nodes_of part_branch) source.now token 0
-        (lent n records.old x texts.old) records.new texts.new result }
+fn parse_parts(source: &[u8], token: Token, store: &mut Store) -> Result<(Token, usize), Stop>
+    requires { Ready source.now token (lent_of store.old) }
+    ensures kept { Kept store.old store.new }
+    ensures parses { ParsesList (loop parse_part (stream source.now token)) (nodes_of part_branch) source.now token 0
+        (lent_of store.old) (lent_of store.new) result }
 {
     let mut t = token;
-    let mut m = n;
-    let mut y = x;
-    let mut count: usize = 0;
-    loop {
-        match parse_part(source, t, records, m, texts, y) {
-            Turn::Over => {
-                return Listed::Done(t, m, y, count);
-            }
-            Turn::Refused(cause, at) => {
-                return Listed::Refused(cause, at);
-            }
-            Turn::More(u, k, z) => {
-                t = u;
-                m = k;
-                y = z;
-                count += 1;
-            }
-        }
+    let mut count = 0;
+    while let Some(after) = parse_part(source, t, store)? {
+        t = after;
+        count += 1;
     }
+    Ok((t, count))
 }
 
 // The value of a prop, after its name.
-fn parse_value(
-    source: &[u8],
-    token: Current,
-    records: &mut [u32],
-    n: usize,
-    texts: &mut [u8],
-    x: usize,
-) -> Listed
-    requires { Ready source.now token n x }
-    ensures { ParsesList (parse_value (stream source.now token)) (nodes_of part_branch) source.now token 0
-        (lent n records.old x texts.old) records.new texts.new result }
+fn parse_value(source: &[u8], token: Token, store: &mut Store) -> Result<(Token, usize), Stop>
+    requires { Ready source.now token (lent_of store.old) }
+    ensures kept { Kept store.old store.new }
+    ensures parses { ParsesList (parse_value (stream source.now token)) (nodes_of part_branch) source.now token 0
+        (lent_of store.old) (lent_of store.new) result }
 {
-    match tokens::eat_punctuation(source, token, 0x3D) {
-        Eaten::Refused(cause, at) => Listed::Refused(cause, at),
-        Eaten::No => Listed::Done(token, n, x, 0),
-        Eaten::Yes(u) => parse_parts(source, u, records, n, texts, x),
+    match tokens::eat_punctuation(source, token, 0x3D)? {
+        Some(after) => parse_parts(source, after, store),
+        None => Ok((token, 0)),
     }
 }
 
 // A prop whose name is a part of the current token.
 fn prop_named(
     source: &[u8],
-    token: Current,
-    at: u32,
-    a: usize,
-    e: usize,
-    records: &mut [u32],
-    n: usize,
-    texts: &mut [u8],
-    x: usize,
-) -> Parsed
-    requires { Ready source.now token n x × PropName source.now token at a e }
-    ensures { Parses (parse_prop (stream source.now token)) (nodes_of prop_branch) source.now token
-        (lent n records.old x texts.old) records.new texts.new result }
+    token: Token,
+    at: bool,
+    name: Part,
+    store: &mut Store,
+) -> Result<Token, Stop>
+    requires { Ready source.now token (lent_of store.old) × PropName source.now token at name }
+    ensures kept { Kept store.old store.new }
+    ensures parses { Parses (parse_prop (stream source.now token)) (nodes_of prop_branch) source.now token
+        (lent_of store.old) (lent_of store.new) result }
 {
-    let arrived = tokens::next(source, token);
-    let Arrived::At(u) = arrived else {
-        return Parsed::Refused(arrived.cause(), arrived.place());
-    };
-    let listed = parse_value(source, u, records, n, texts, x);
-    let Listed::Done(v, m, y, count) = listed else {
-        return Parsed::Refused(listed.cause(), listed.place());
-    };
-    let put = store::put_named(
-        &source[a..e],
-        5,
+    let named = tokens::next(source, token)?;
+    let (after, count) = parse_value(source, named, store)?;
+    store.put_named(
+        NodeKind::Prop,
         tokens::start(token),
-        at,
+        name.of(source),
+        at as u32,
         count,
-        records,
-        m,
-        texts,
-        y,
     );
-    Parsed::Done(v, put.n, put.x)
+    Ok(after)
 }
 
-fn parse_prop(
-    source: &[u8],
-    token: Current,
-    records: &mut [u32],
-    n: usize,
-    texts: &mut [u8],
-    x: usize,
-) -> Parsed
-    requires { Ready source.now token n x }
-    ensures { Parses (parse_prop (stream source.now token)) (nodes_of prop_branch) source.now token
-        (lent n records.old x texts.old) records.new texts.new result }
+fn parse_prop(source: &[u8], token: Token, store: &mut Store) -> Result<Token, Stop>
+    requires { Ready source.now token (lent_of store.old) }
+    ensures kept { Kept store.old store.new }
+    ensures parses { Parses (parse_prop (stream source.now token)) (nodes_of prop_branch) source.now token
+        (lent_of store.old) (lent_of store.new) result }
 {
-    match tokens::at(token) {
-        Part::From(a, e) => prop_named(source, token, 1, a, e, records, n, texts, x),
-        Part::Nothing => {
-            let Part::From(a, e) = tokens::name(token) else {
-                return Parsed::Refused(Cause::UnexpectedToken, tokens::start(token));
-            };
-            prop_named(source, token, 0, a, e, records, n, texts, x)
-        }
+    if let Some(name) = tokens::at(token) {
+        return prop_named(source, token, true, name, store);
     }
+    let Some(name) = tokens::name(token) else {
+        return Err(tokens::unexpected(token));
+    };
+    prop_named(source, token, false, name, store)
 }
 
 // Props up to their bracket.
-fn props_list(
-    source: &[u8],
-    token: Current,
-    records: &mut [u32],
-    n: usize,
-    texts: &mut [u8],
-    x: usize,
-) -> Listed
-    requires { Ready source.now token n x }
-    ensures { ParsesList (props_list (stream source.now token)) (nodes_of prop_branch) source.now token 1
-        (lent n records.old x texts.old) records.new texts.new result }
+fn props_list(source: &[u8], token: Token, store: &mut Store) -> Result<(Token, usize), Stop>
+    requires { Ready source.now token (lent_of store.old) }
+    ensures kept { Kept store.old store.new }
+    ensures parses { ParsesList (props_list (stream source.now token)) (nodes_of prop_branch) source.now token 1
+        (lent_of store.old) (lent_of store.new) result }
 {
     let mut t = token;
-    let mut m = n;
-    let mut y = x;
-    let mut count: usize = 0;
+    let mut count = 0;
     loop {
-        match opening(source, t, 0x5D, Comma::Must, count) {
-            Opened::Closed(u) => {
-                return Listed::Done(u, m, y, count);
-            }
-            Opened::Refused(cause, at) => {
-                return Listed::Refused(cause, at);
-            }
-            Opened::Item(u) => {
-                let parsed = parse_prop(source, u, records, m, texts, y);
-                let Parsed::Done(v, k, z) = parsed else {
-                    return Listed::Refused(parsed.cause(), parsed.place());
-                };
-                t = v;
-                m = k;
-                y = z;
+        match opening(source, t, 0x5D, Comma::Must, count)? {
+            Opened::Closed(after) => return Ok((after, count)),
+            Opened::Item(item) => {
+                t = parse_prop(source, item, store)?;
                 count += 1;
             }
         }
@@ -423,21 +238,14 @@ fn props_list(
 }
 
 // `[` props `]`, or nothing.
-pub fn parse_props(
-    source: &[u8],
-    token: Current,
-    records: &mut [u32],
-    n: usize,
-    texts: &mut [u8],
-    x: usize,
-) -> Listed
-    requires { Ready source.now token n x }
-    ensures { ParsesList (parse_props (stream source.now token)) (nodes_of prop_branch) source.now token 0
-        (lent n records.old x texts.old) records.new texts.new result }
+pub fn parse_props(source: &[u8], token: Token, store: &mut Store) -> Result<(Token, usize), Stop>
+    requires { Ready source.now token (lent_of store.old) }
+    ensures kept { Kept store.old store.new }
+    ensures parses { ParsesList (parse_props (stream source.now token)) (nodes_of prop_branch) source.now token 0
+        (lent_of store.old) (lent_of store.new) result }
 {
-    match tokens::eat_punctuation(source, token, 0x5B) {
-        Eaten::Refused(cause, at) => Listed::Refused(cause, at),
-        Eaten::No => Listed::Done(token, n, x, 0),
-        Eaten::Yes(u) => props_list(source, u, records, n, texts, x),
+    match tokens::eat_punctuation(source, token, 0x5B)? {
+        Some(after) => props_list(source, after, store),
+        None => Ok((token, 0)),
     }
 }

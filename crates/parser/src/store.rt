@@ -6,17 +6,141 @@ ghost use Rattle.characters.specs.Promise.{written};
 ghost use Rattle.lexer.specs.Escapes.{decode_string};
 ghost use Rattle.lexer.specs.Promise.{Checks, spans_in, words_of};
 ghost use Rattle.lexer.specs.Sets.{spans, fault, sorted};
+ghost use Rattle.tree.specs.Promise.{kind_number};
 ghost use Rattle.tree.specs.Records.{place_of};
-ghost use Rattle.parser.specs.Storing.{lent, Stores, StoresPlain, node, span_words, StoresSet};
+ghost use Rattle.parser.specs.Storing.{lent, lent_of, nothing_lent, Kept, Stores, node, span_words, StoresSet};
 
-use lexer::sets::Ranges;
-use tree::Record;
+use error::Cause;
+use tree::{NodeKind, Record};
 
-// How many words and bytes are taken.
-#[derive(Clone, Copy)]
-pub struct Put {
+// How many words a record has.
+const WIDTH: usize = 7;
+
+// The words and bytes that are lent for a tree, and how many of each are taken.
+#[derive(Drop)]
+pub struct Store<'a> {
+    pub records: &'a mut [u32],
     pub n: usize,
+    pub texts: &'a mut [u8],
     pub x: usize,
+}
+
+impl<'a> Store<'a> {
+    // Over nothing: all is counted, and nothing stored.
+    pub fn measuring() -> Store<'a>
+        ensures { lent_of result ≡ lent 0 [] 0 [] }
+    {
+        Store {
+            records: &mut [],
+            n: 0,
+            texts: &mut [],
+            x: 0,
+        }
+    }
+
+    // Nothing is lent, so nothing but the count can differ.
+    pub fn is_measuring(&self) -> bool
+        ensures { result ≡ nothing_lent self.now }
+    {
+        self.records.is_empty() && self.texts.is_empty()
+    }
+
+    // A record behind those that are taken, whose text has begun behind the texts that are taken.
+    fn put_record(&mut self, kind: NodeKind, start: usize, size: usize, value: u32, children: usize)
+        requires { (self.old.n + 7 < 2 ^ 64) × (start < 2 ^ 32) × (self.old.x + size < 2 ^ 32) × (children < 2 ^ 32) }
+        ensures kept { Kept self.old self.new }
+        ensures taken { (self.new.n ≡ self.old.n + 7) × (self.new.x ≡ self.old.x + size) × (self.new.texts.now ≡ self.old.texts.now) }
+        ensures words { self.new.records.now ≡ written self.old.records.now self.old.n
+            (kind_number kind ∷ start ∷ place_of self.old.x size ∷ size ∷ value ∷ 0 ∷ children ∷ []) }
+    {
+        let record = Record {
+            kind,
+            start: start as u32,
+            place: place(self.x, size) as u32,
+            size: size as u32,
+            value,
+            second: 0,
+            children: children as u32,
+        };
+        self.n += tree::put(self.records, self.n, record);
+        self.x += size;
+    }
+
+    // A node without a text.
+    pub fn put_plain(&mut self, kind: NodeKind, start: usize, value: u32, children: usize)
+        requires { (self.old.n + 7 < 2 ^ 64) × (start < 2 ^ 32) × (children < 2 ^ 32) }
+        ensures kept { Kept self.old self.new }
+        ensures stores { Stores (node (kind_number kind) start [] value 0 children ∷ []) (lent_of self.old) (lent_of self.new) }
+        ensures bytes { (self.new.x ≡ self.old.x) × (self.new.texts.now ≡ self.old.texts.now) }
+    {
+        let record = Record {
+            kind,
+            start: start as u32,
+            place: 0,
+            size: 0,
+            value,
+            second: 0,
+            children: children as u32,
+        };
+        self.n += tree::put(self.records, self.n, record);
+    }
+
+    // A node with these bytes for its text.
+    pub fn put_named(
+        &mut self,
+        kind: NodeKind,
+        start: usize,
+        text: &[u8],
+        value: u32,
+        children: usize,
+    )
+        requires { (self.old.n + 7 < 2 ^ 64) × (start < 2 ^ 32) × (children < 2 ^ 32) × (self.old.x + length text.now < 2 ^ 32) }
+        ensures kept { Kept self.old self.new }
+        ensures stores { Stores (node (kind_number kind) start text.now value 0 children ∷ []) (lent_of self.old) (lent_of self.new) }
+    {
+        let size = tree::put_text(self.texts, self.x, text);
+        self.put_record(kind, start, size, value, children);
+    }
+
+    // The value of a string, whose text stands between its quotes, to the bytes behind those taken: how many they are.
+    fn put_value(&mut self, body: &[u8]) -> usize
+        requires { self.old.x + length body.now < 2 ^ 32 }
+        ensures kept { Kept self.old self.new }
+        ensures taken { (self.new.n ≡ self.old.n) × (self.new.x ≡ self.old.x) × (self.new.records.now ≡ self.old.records.now) }
+        ensures size { (result ≡ length (encode_all (decode_string (codes body.now)))) × (result ≤ length body.now) }
+        ensures len { length self.new.texts.now ≡ length self.old.texts.now }
+        ensures value { (self.old.x + result ≤ length self.old.texts.now → self.new.texts.now ≡ written self.old.texts.now self.old.x (encode_all (decode_string (codes body.now)))) }
+    {
+        if self.texts.len() < self.x {
+            return lexer::escapes::decode_string(body, &mut []);
+        }
+        lexer::escapes::decode_string(body, &mut self.texts[self.x..])
+    }
+
+    // A node with the value of a string for its text.
+    pub fn put_string(&mut self, kind: NodeKind, start: usize, body: &[u8], children: usize)
+        requires { (self.old.n + 7 < 2 ^ 64) × (start < 2 ^ 32) × (children < 2 ^ 32) × (self.old.x + length body.now < 2 ^ 32) }
+        ensures kept { Kept self.old self.new }
+        ensures stores { Stores (node (kind_number kind) start (encode_all (decode_string (codes body.now))) 0 0 children ∷ []) (lent_of self.old) (lent_of self.new) }
+        ensures few { self.new.x ≤ self.old.x + length body.now }
+    {
+        let size = self.put_value(body);
+        self.put_record(kind, start, size, 0, children);
+    }
+
+    // The spans of a set that starts at a place, a node each, in ascending order: how many there are, or what stops the set.
+    pub fn put_spans(&mut self, start: usize, body: &[u8]) -> Result<usize, Cause>
+        requires { (self.old.n + 7 * length body.now < 2 ^ 64) × (start < 2 ^ 32) }
+        ensures kept { Kept self.old self.new }
+        ensures checks { Checks (spans (codes body.now)) result }
+        ensures stores { StoresSet body.now start (lent_of self.old) (lent_of self.new) result }
+        ensures bytes { (self.new.x ≡ self.old.x) × (self.new.texts.now ≡ self.old.texts.now) }
+    {
+        let count = read_spans(body, self.records, self.n)?;
+        spread(self.records, self.n, start as u32, count);
+        self.n += WIDTH * count;
+        Ok(count)
+    }
 }
 
 // The place of a text of a length: an empty one has place 0.
@@ -29,124 +153,14 @@ fn place(x: usize, size: usize) -> usize
     x
 }
 
-// A record, behind the first n words.
-fn put_record(
-    records: &mut [u32],
-    n: usize,
-    kind: u32,
-    start: usize,
-    x: usize,
-    size: usize,
-    value: u32,
-    children: usize,
-) -> usize
-    requires { (n + 7 < 2 ^ 64) × (start < 2 ^ 32) × (x < 2 ^ 32) × (size < 2 ^ 32) × (children < 2 ^ 32) }
-    ensures { (result ≡ n + 7) × (records.new ≡ written records.old n (kind ∷ start ∷ place_of x size ∷ size ∷ value ∷ 0 ∷ children ∷ [])) }
-{
-    n + tree::put(
-        records,
-        n,
-        Record {
-            kind: kind,
-            start: start as u32,
-            place: place(x, size) as u32,
-            size: size as u32,
-            value: value,
-            second: 0,
-            children: children as u32,
-        },
-    )
-}
-
-// A node without a text.
-pub fn put_plain(
-    records: &mut [u32],
-    n: usize,
-    kind: u32,
-    start: usize,
-    value: u32,
-    children: usize,
-) -> usize
-    requires { (n + 7 < 2 ^ 64) × (start < 2 ^ 32) × (children < 2 ^ 32) }
-    ensures { StoresPlain (node kind start [] value 0 children) n records.old result records.new }
-{
-    put_record(records, n, kind, start, 0, 0, value, children)
-}
-
-// A node with these bytes for its text.
-pub fn put_named(
-    text: &[u8],
-    kind: u32,
-    start: usize,
-    value: u32,
-    children: usize,
-    records: &mut [u32],
-    n: usize,
-    texts: &mut [u8],
-    x: usize,
-) -> Put
-    requires { (n + 7 < 2 ^ 64) × (start < 2 ^ 32) × (children < 2 ^ 32) × (x + length text.now < 2 ^ 32) }
-    ensures { Stores (node kind start text.now value 0 children ∷ []) (lent n records.old x texts.old) (lent result.n records.new result.x texts.new) }
-{
-    let size = tree::put_text(texts, x, text);
-    let m = put_record(records, n, kind, start, x, size, value, children);
-    Put { n: m, x: x + size }
-}
-
-// The value of a string, whose text stands between its quotes, to the bytes behind the first x: how many they are.
-fn put_value(body: &[u8], texts: &mut [u8], x: usize) -> usize
-    requires { x + length body.now < 2 ^ 32 }
-    ensures { (result ≡ length (encode_all (decode_string (codes body.now)))) × (result ≤ length body.now)
-        × (x + result ≤ length texts.old → texts.new ≡ written texts.old x (encode_all (decode_string (codes body.now)))) }
-{
-    if texts.len() < x {
-        return lexer::escapes::decode_string(body, &mut texts[..0]);
-    }
-    lexer::escapes::decode_string(body, &mut texts[x..])
-}
-
-// A node with the value of a string for its text.
-pub fn put_string(
-    body: &[u8],
-    kind: u32,
-    start: usize,
-    children: usize,
-    records: &mut [u32],
-    n: usize,
-    texts: &mut [u8],
-    x: usize,
-) -> Put
-    requires { (n + 7 < 2 ^ 64) × (start < 2 ^ 32) × (children < 2 ^ 32) × (x + length body.now < 2 ^ 32) }
-    ensures { Stores (node kind start (encode_all (decode_string (codes body.now))) 0 0 children ∷ []) (lent n records.old x texts.old) (lent result.n records.new result.x texts.new)
-        × (result.x ≤ x + length body.now) }
-{
-    let size = put_value(body, texts, x);
-    let m = put_record(records, n, kind, start, x, size, 0, children);
-    Put { n: m, x: x + size }
-}
-
-// The spans of a set that starts at a place, a node each, in ascending order: how many there are, or what stops the set.
-pub fn put_spans(body: &[u8], start: usize, records: &mut [u32], n: usize) -> Ranges
-    requires { (n + 7 * length body.now < 2 ^ 64) × (start < 2 ^ 32) }
-    ensures { Checks (spans (codes body.now)) result × StoresSet body.now start n records.old records.new result }
-{
-    match read_spans(body, records, n) {
-        Ranges::Reversed => Ranges::Reversed,
-        Ranges::Overlapping => Ranges::Overlapping,
-        Ranges::Sound(count) => {
-            spread(records, n, start as u32, count);
-            Ranges::Sound(count)
-        }
-    }
-}
-
 // The spans in ascending order behind the first n words, two words each.
-fn read_spans(body: &[u8], records: &mut [u32], n: usize) -> Ranges
-    ensures { Checks (spans (codes body.now)) result
-        × (fault (spans (codes body.now)) ≡ none → records.new ≡ written records.old n (words_of (sorted (spans (codes body.now))))) }
+fn read_spans(body: &[u8], records: &mut [u32], n: usize) -> Result<usize, Cause>
+    ensures checks { Checks (spans (codes body.now)) result }
+    ensures words { fault (spans (codes body.now)) ≡ none → records.new ≡ written records.old n (words_of (sorted (spans (codes body.now)))) }
+    ensures len { length records.new ≡ length records.old }
 {
     if records.len() < n {
-        return lexer::sets::parse_set_ranges(body, &mut records[..0]);
+        return lexer::sets::parse_set_ranges(body, &mut []);
     }
     lexer::sets::parse_set_ranges(body, &mut records[n..])
 }
@@ -156,15 +170,13 @@ fn spread(records: &mut [u32], n: usize, start: u32, count: usize)
     requires { n + 7 * count < 2 ^ 64 }
     ensures { records.new ≡ written records.old n (span_words start (spans_in count (drop n records.old))) }
 {
-    if records.len() < n + 7 * count {
+    if records.len() < n + WIDTH * count {
         return;
     }
-    let mut i = count;
-    while 0 < i {
-        i -= 1;
+    for i in (0..count).rev() {
         let first = records[n + 2 * i];
         let past = records[n + 2 * i + 1];
-        put_span(records, n + 7 * i, start, first, past);
+        put_span(records, n + WIDTH * i, start, first, past);
     }
 }
 
@@ -172,17 +184,14 @@ fn spread(records: &mut [u32], n: usize, start: u32, count: usize)
 fn put_span(records: &mut [u32], at: usize, start: u32, first: u32, past: u32)
     ensures { records.new ≡ written records.old at (38 ∷ start ∷ 0 ∷ 0 ∷ first ∷ past ∷ 0 ∷ []) }
 {
-    let _size = tree::put(
-        records,
-        at,
-        Record {
-            kind: 38,
-            start: start,
-            place: 0,
-            size: 0,
-            value: first,
-            second: past,
-            children: 0,
-        },
-    );
+    let record = Record {
+        kind: NodeKind::Span,
+        start,
+        place: 0,
+        size: 0,
+        value: first,
+        second: past,
+        children: 0,
+    };
+    let _size = tree::put(records, at, record);
 }

@@ -3,23 +3,24 @@
 use Prim.Native.Nat.{ℕ}
 use native.Mathlib.Omega.{arith}
 use mathlib.Core.Path.{◌≡◌, refl}
-use mathlib.Core.Bool.{Bool, true, false}
+use Rattle.std.specs.Prelude as Std
+use Rattle.std.specs.Prelude.{None, Some}
+use Rattle.std.specs.Option.{is_some}
+use Rattle.lexer.specs.declared.Part.{Part}
+use mathlib.Core.Bool.{Bool, true, false, not}
 use mathlib.Core.List.{List}
 use mathlib.Core.Option.{Option, none, some}
 use Rattle.basics.specs.Basics.{if◌then◌otherwise◌, spells}
-use Rattle.error.specs.declared.Cause.{Cause}
 use Rattle.lexer.specs.Tokens.{Tokens}
 use Rattle.tree.specs.Syntax.{SpecializeKind, Declaration, declaration_kind}
 use Rattle.notation.specs.Parser.{Answer, read, refused, Parser, and_then, ◌>>=◌, pure, refuse, choose, here, start_of, kind, kind_of, name_in, at_in, next, says, refuse_here}
 use Rattle.notation.specs.Members.{Member, declaration, dialects, external_prop, detect_delim}
 use Rattle.notation.specs.Declarations.{top_by, parse_context_declaration, parse_external_tokens, parse_external_specializer, parse_external_prop_source, external_by, parse_external_declaration, parse_directive, declaration_by, parse_declaration}
-use Rattle.tokens.specs.Promise.{stream, name_of, at_of, text_in, arrival, Lies, Whole}
-use Rattle.tokens.specs.declared.Current.{Current}
-use Rattle.tokens.specs.declared.Arrived.{Arrived}
-use Rattle.tokens.specs.declared.Arrived.TheVariants.{At, Refused}
-use Rattle.tokens.proofs.Stream.{name-of, at-of, name-whole}
+use Rattle.tokens.specs.Promise.{stream, name_of, at_of, text_in}
+use Rattle.lexer.specs.declared.Token.{Token}
+use Rattle.tokens.proofs.Stream.{name-of, at-of}
 use Rattle.reader.specs.Directives.{member_kind}
-use Rattle.reader.specs.Ahead.{external_kind, external_ahead, keyword_kind, kind_ahead}
+use Rattle.reader.specs.Ahead.{external_kind, external_ahead, plain_kind, keyword_kind, kind_ahead}
 
 -- ------------------------------------------------------------------ parsers that read one kind
 
@@ -120,17 +121,24 @@ declaration-yields before ts = declaration-by (start_of ts) before (at_in (kind_
 
 -- ------------------------------------------------------------------ the tests of the code
 
-pub ahead_none : (s : List ℕ) {r : Arrived} {d : Answer ℕ (Unit {0})} → d ≡ arrival s r → {c : Cause} {p : ℕ} → r ≡ Refused c p → 0 ≡ external_ahead d
+pub ahead_none : {d : Answer ℕ (Unit {0})} {c p : ℕ} → d ≡ refused c p → 0 ≡ external_ahead d
 unfolding external_ahead
-ahead_none s h e = rw (h, e)
+ahead_none h = rw h
 
-pub ahead-named : (s : List ℕ) {r : Arrived} {d : Answer ℕ (Unit {0})} → d ≡ arrival s r → {u : Current} → r ≡ At u → external_kind (text_in s (name_of u)) ≡ external_ahead d
+pub ahead-named : (s : List ℕ) (u : Token) {d : Answer ℕ (Unit {0})} → d ≡ read tt (stream s u) → external_kind (text_in s (name_of u)) ≡ external_ahead d
 unfolding external_ahead
-ahead-named s h {u} e = rw (h, e, name-of s u)
+ahead-named s u h = rw (h, name-of s u)
 
-pub ahead-by : (s : List ℕ) (t : Current) → kind_ahead (stream s t) ≡ keyword_kind (external_ahead (next (stream s t))) (text_in s (at_of t))
+pub ahead-by : (s : List ℕ) (t : Token) → kind_ahead (stream s t) ≡ keyword_kind (external_ahead (next (stream s t))) (text_in s (at_of t))
 unfolding kind_ahead
 ahead-by s t = rw (at-of s t)
 
-pub ahead-whole : (s : List ℕ) (from : ℕ) {r : Arrived} → Lies s from r → {u : Current} → r ≡ At u → Whole s (name_of u)
-ahead-whole s from h {u} e = name-whole s u from (rw e at h)
+-- no keyword: a rule; and another keyword
+module _ (s : List ℕ) {q : Std.Option Part} {b : Bool} where
+  pub plain-none : (p : Std.Option Part) → p ≡ q → is_some p ≡ not b → b ≡ true → 3 ≡ plain_kind (text_in s q)
+  plain-none None e f g = rw (← e)
+  plain-none (Some a) e f g = absurd (let z : true ≡ false = rw g at f in let y : ◌≡◌ {A = ℕ} 0 1 = cc in omega arith)
+
+  pub plain-some : (p : Std.Option Part) → p ≡ q → is_some p ≡ not b → b ≡ false → 0 ≡ plain_kind (text_in s q)
+  plain-some (Some a) e f g = rw (← e)
+  plain-some None e f g = absurd (let z : false ≡ true = rw g at f in let y : ◌≡◌ {A = ℕ} 0 1 = cc in omega arith)

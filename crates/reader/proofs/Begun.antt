@@ -12,7 +12,7 @@ use Rattle.basics.specs.Basics.{if◌then◌otherwise◌}
 use Rattle.tree.specs.Records.{Branch, nodes, texts_of}
 use Rattle.tokens.specs.Promise.{LiesIn}
 use Rattle.parser.specs.Storing.{flat}
-use Rattle.tokens.specs.declared.Current.{Current}
+use Rattle.lexer.specs.declared.Token.{Token}
 use Rattle.reader.specs.Groups.{all_of}
 use Rattle.reader.specs.Places.{group_at, Fills, Begins}
 use Rattle.reader.proofs.GroupSizes.{Weight, nodes-of, bytes_of}
@@ -53,7 +53,7 @@ module _ {M : Type 0} (place kind : M → ℕ) (branches : M → List Branch) {c
       let d : get_or qs₁ g 0 ≡ 0 = get_or-eq_default qs₁ 0 {n = g} (omega arith) in
       omega arith
 
-  pub begins-on : {limit : ℕ} {s : List ℕ} {t u : Current} → Begins count limit s t ps qs → (more : ℕ) → limit + 0x100000 ≤ more → LiesIn s 0 u → Begins count more s u ps₁ qs₁
+  pub begins-on : {limit : ℕ} {s : List ℕ} {t u : Token} → Begins count limit s t ps qs → (more : ℕ) → limit + 0x100000 ≤ more → LiesIn s 0 u → Begins count more s u ps₁ qs₁
   begins-on b more m i =
       record {
         lies = i;

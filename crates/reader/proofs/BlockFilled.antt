@@ -9,22 +9,16 @@ use mathlib.Core.List.{List, [], ◌∷◌, ◌++◌, append-nil}
 use lib.Dec.{eqb, eqb→eq}
 use lib.ListN.{length, take, get_or, get_or-eq_default, set}
 use lib.Seq.{take_all, get_or-set_same}
-use Rattle.basics.proofs.Lists.{front-none}
 use Rattle.basics.specs.Basics.{if◌then◌otherwise◌}
-use Rattle.error.specs.declared.Cause.{Cause}
-use Rattle.error.specs.Promise.{cause_number}
 use Rattle.tree.specs.Records.{Node, nodes, width, texts_of}
-use Rattle.notation.specs.Parser.{refused}
 use Rattle.notation.specs.Members.{TokenMember, LocalMember, SkipMember, ExternalMember}
 use Rattle.tokens.specs.Promise.{stream, LiesIn}
 use Rattle.parser.specs.Storing.{lent, Stores, flat}
-use Rattle.tokens.specs.declared.Current.{Current}
-use Rattle.parser.specs.declared.props.Listed.{Listed}
-use Rattle.parser.specs.declared.props.Listed.TheVariants.{Done, Refused}
+use Rattle.lexer.specs.declared.Token.{Token}
 use Rattle.parser.proofs.Onward.{placed_in}
 use Rattle.reader.specs.Groups.{groups_of, Gathers}
 use Rattle.reader.specs.Places.{place_in, group_at, Fills, sum, lined_up, Blank, Begins}
-use Rattle.reader.specs.Blocks.{MemberOf, members_of, kind_of, branches_of, kinds_of, place_of, block_count, Spreads, SpreadsTo, FirstIs, FirstTo, Roomy}
+use Rattle.reader.specs.Blocks.{MemberOf, members_of, kind_of, branches_of, kinds_of, place_of, block_count, Spreads, FirstIs, Roomy}
 use Rattle.reader.specs.declared.blocks.Block.{Block}
 use Rattle.reader.specs.declared.blocks.Block.TheVariants.{Tokens, LocalTokens, ExternalTokens, Specializer, Skip}
 use Rattle.reader.proofs.GroupSizes.{number, nodes-of, bytes_of, block_weighs, kinds_nonzero, kinds-few}
@@ -109,25 +103,6 @@ module _ (b : Block) (ms : List (MemberOf b)) where
 
 -- ------------------------------------------------------------------ the first pass
 
--- by its variant
-module _ (b : Block) (s : List ℕ) (t : Current) (ps qs ps₁ qs₁ ws ts vs us : List ℕ) (r : Listed) (h : SpreadsTo b s t ps qs ps₁ qs₁ ws ts vs us r) where
-  pub spread_at : {u : Current} {n x count : ℕ} → r ≡ Done u n x count → Spreads b s t ps qs ps₁ qs₁ ws ts vs us u n x count
-  spread_at q = rw q at h
-
-  pub spread_not : {c : Cause} {p : ℕ} → r ≡ Refused c p → members_of b (stream s t) ≡ refused (cause_number c) p
-  spread_not q = rw q at h
-
-pub first-at : (b : Block) (s : List ℕ) (t : Current) (sizes : List ℕ) (r : Listed) → FirstTo b s t sizes r → {u : Current} {n x count : ℕ} → r ≡ Done u n x count → FirstIs b s t (get_or sizes 0 0)
-first-at b s t sizes r h q = rw q at h
-
--- a part of no words, or no bytes, stands before all of them
-module _ {b : Block} {s : List ℕ} {t : Current} {ps qs ps₁ qs₁ es fs gs hs : List ℕ} {v : Current} {m y children : ℕ} (g : Spreads b s t ps qs ps₁ qs₁ es fs gs hs v m y children) where
-  pub before-words : length es ≡ 0 → (ws : List ℕ) → gs ++ ws ≡ ws
-  before-words e ws = front-none gs ws (g.fills.records.same ∙ e)
-
-  pub before-texts : length fs ≡ 0 → (ts : List ℕ) → hs ++ ts ≡ ts
-  before-texts e ts = front-none hs ts (g.fills.texts.same ∙ e)
-
 zeros : (g : ℕ) → ◌≡◌ {A = ℕ} (get_or (0 ∷ 0 ∷ 0 ∷ 0 ∷ []) g 0) 0
 zeros zero = refl
 zeros (suc zero) = refl
@@ -138,7 +113,7 @@ zeros (suc (suc (suc (suc g)))) = refl
 pub block-blank : Blank block_count (0 ∷ 0 ∷ 0 ∷ 0 ∷ [])
 block-blank = record { all = refl; none = zeros }
 
-pub blank-begins : {s : List ℕ} {t : Current} → LiesIn s 0 t → length s ≤ 0x10000 → {ps qs : List ℕ} → Blank block_count ps → Blank block_count qs → Begins block_count 0x28000000 s t ps qs
+pub blank-begins : {s : List ℕ} {t : Token} → LiesIn s 0 t → length s ≤ 0x10000 → {ps qs : List ℕ} → Blank block_count ps → Blank block_count qs → Begins block_count 0x28000000 s t ps qs
 blank-begins l z a b =
     record {
       lies = l;
@@ -149,7 +124,7 @@ blank-begins l z a b =
       bytes-few = λ g. let k = b.none g in omega arith;
     }
 
-module _ {b : Block} {s : List ℕ} {t : Current} {n x : ℕ} (r : Roomy s t n x) {ps₀ qs₀ : List ℕ} (z₁ : Blank block_count ps₀) (z₂ : Blank block_count qs₀) {ps qs es fs gs hs : List ℕ} {v : Current} {m y children : ℕ}
+module _ {b : Block} {s : List ℕ} {t : Token} {n x : ℕ} {ws₀ ts₀ : List ℕ} (r : Roomy s t (lent n ws₀ x ts₀)) {ps₀ qs₀ : List ℕ} (z₁ : Blank block_count ps₀) (z₂ : Blank block_count qs₀) {ps qs es fs gs hs : List ℕ} {v : Token} {m y children : ℕ}
     (g : Spreads b s t ps₀ qs₀ ps qs es fs gs hs v m y children) where
   abbrev found : List (MemberOf b)
   found = g.gathers.members
@@ -221,9 +196,9 @@ module _ {b : Block} {s : List ℕ} {t : Current} {n x : ℕ} (r : Roomy s t n x
   bytes_small = let a = bytes-sum in let c = spread_small.1 in omega arith
 
   -- nothing is lent: that is enough
-  pub spread_none : {ws ts vs us : List ℕ} → length ws ≡ 0 → length ts ≡ 0 → length vs ≡ 0 → length us ≡ 0
-      → Gathers (members_of b (stream s t)) (groups_of (kind_of b) (branches_of b) (kinds_of b)) s t 1 (lent n ws x ts) v (lent (n + m) vs (x + y) us) children
-  spread_none a c d e =
+  pub spread_none : length ws₀ ≡ 0 → length ts₀ ≡ 0
+      → Gathers (members_of b (stream s t)) (groups_of (kind_of b) (branches_of b) (kinds_of b)) s t 1 (lent n ws₀ x ts₀) v (lent (n + m) ws₀ (x + y) ts₀) children
+  spread_none a c =
       let h = g.gathers in
       let i = block_weighs b nodes-of found in
       let j = block_weighs b bytes_of found in
@@ -234,7 +209,7 @@ module _ {b : Block} {s : List ℕ} {t : Current} {n x : ℕ} (r : Roomy s t n x
         gives = h.gives;
         counted = block_weighs b number found ∙ h.counted;
         onward = h.onward;
-        lays = record { stores = stores-sizes (stores-again n x h.lays.stores) (sym i) (sym j) a c d e; bound = omega arith; space = omega arith };
+        lays = record { stores = stores-sizes (stores-again n x h.lays.stores) (sym i) (sym j) a c a c; bound = omega arith; space = omega arith };
       }
 
   -- ---------------------------------------------------------------- the second pass
@@ -271,7 +246,7 @@ module _ {b : Block} {s : List ℕ} {t : Current} {n x : ℕ} (r : Roomy s t n x
           bytes-few = λ i. byte_few i (dec_lt i block_count);
         }
 
-    module _ {ps₂ qs₂ ws ts vs us : List ℕ} {u : Current} {m₂ y₂ c₂ : ℕ} (k : Spreads b s t ps₁ qs₁ ps₂ qs₂ ws ts vs us u m₂ y₂ c₂) where
+    module _ {ps₂ qs₂ ws ts vs us : List ℕ} {u : Token} {m₂ y₂ c₂ : ℕ} (k : Spreads b s t ps₁ qs₁ ps₂ qs₂ ws ts vs us u m₂ y₂ c₂) where
       pub all_after : length ps₂ ≡ block_count
       all_after = k.fills.same_places ∙ lined-begins.words-all
 
@@ -307,7 +282,7 @@ module _ {b : Block} {s : List ℕ} {t : Current} {n x : ℕ} (r : Roomy s t n x
                 ∙ rw (first-all b found);
           }
 
-      spread_twice : Gathers (members_of b (stream s t)) (groups_of (kind_of b) (branches_of b) (kinds_of b)) s t 1 (lent n ws x ts) v (lent (n + m) vs (x + y) us) children
+      pub spread_twice : Gathers (members_of b (stream s t)) (groups_of (kind_of b) (branches_of b) (kinds_of b)) s t 1 (lent n ws x ts) v (lent (n + m) vs (x + y) us) children
       spread_twice =
           let h = g.gathers in
           let i = block_weighs b nodes-of found in
@@ -321,8 +296,3 @@ module _ {b : Block} {s : List ℕ} {t : Current} {n x : ℕ} (r : Roomy s t n x
             onward = h.onward;
             lays = record { stores = spread_stores; bound = omega arith; space = omega arith };
           }
-
-      -- before the pass the words and bytes are as they were
-      pub spread_over : {ws₀ ts₀ : List ℕ} → ws ≡ ws₀ → ts ≡ ts₀
-          → Gathers (members_of b (stream s t)) (groups_of (kind_of b) (branches_of b) (kinds_of b)) s t 1 (lent n ws₀ x ts₀) v (lent (n + m) vs (x + y) us) children
-      spread_over d e = rw (d, e) at spread_twice

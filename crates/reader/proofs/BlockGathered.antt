@@ -3,7 +3,7 @@
 use Prim.Native.Nat.{ℕ, ◌+◌, ◌-◌}
 use native.Mathlib.Omega.{arith}
 use mathlib.Core.Path.{◌≡◌, refl, ◌∙◌}
-use mathlib.Core.Bool.{true}
+use mathlib.Core.Bool.{Bool, true, false, ◌&&◌}
 use lib.Dec.{eqb, eqb→eq}
 use mathlib.Core.List.{List, [], ◌∷◌}
 use lib.ListN.{length}
@@ -11,19 +11,16 @@ use Rattle.lexer.specs.Tokens.{Tokens}
 use Rattle.characters.specs.Promise.{written}
 use Rattle.characters.proofs.Written.{length-written}
 use Rattle.tree.specs.Records.{Node, texts_of}
+use Rattle.std.specs.Prelude.{Result, Ok, Err}
+use Rattle.error.specs.declared.Stop.{Stop}
 use Rattle.notation.specs.Parser.{Answer, read, refused, and_then, ◌>>=◌, expect}
 use Rattle.notation.specs.Declarations.{block}
 use Rattle.tokens.specs.Promise.{stream, LiesIn, Expects}
-use Rattle.parser.specs.Storing.{lent, Stores}
+use Rattle.parser.specs.Storing.{Lent, lent, Stores}
 use Rattle.parser.specs.Steps.{Onward, Lays, between_by}
-use Rattle.tokens.specs.declared.Current.{Current}
-use Rattle.tokens.specs.declared.Arrived.{Arrived}
-use Rattle.tokens.specs.declared.Arrived.TheVariants.{At}
-use Rattle.parser.specs.declared.props.Listed.{Listed}
-use Rattle.parser.specs.declared.props.Listed.TheVariants.{Done, Refused}
+use Rattle.lexer.specs.declared.Token.{Token}
 use Rattle.parser.proofs.Onward.{expect-onward, onward_then}
 use Rattle.parser.proofs.Lists.{lays-between}
-use Rattle.parser.proofs.Took.{expect-at}
 use Rattle.reader.specs.Groups.{groups_of, GathersTo}
 use Rattle.reader.specs.Blocks.{MemberOf, member_of, members_of, comma_of, kind_of, branches_of, kinds_of}
 use Rattle.reader.specs.declared.blocks.Block.{Block}
@@ -68,7 +65,7 @@ stores-again n x st =
     }
 
 -- and before it
-pub lays-alone : {s : List ℕ} {t u : Current} {xs : List Node} {n x m y : ℕ} {ws ts vs us : List ℕ} → Lays s t u 0 xs (lent n ws x ts) (lent m vs y us) → Lays s t u 0 xs (lent 0 [] 0 []) (lent (m - n) [] (y - x) [])
+pub lays-alone : {s : List ℕ} {t u : Token} {xs : List Node} {n x m y : ℕ} {ws ts vs us : List ℕ} → Lays s t u 0 xs (lent n ws x ts) (lent m vs y us) → Lays s t u 0 xs (lent 0 [] 0 []) (lent (m - n) [] (y - x) [])
 lays-alone l =
     let a = l.stores.words-end in
     let b = l.stores.texts-end in
@@ -93,28 +90,37 @@ module _ (b : Block) (ts : Tokens ℕ) {us : Tokens ℕ} (e : expect "{" ts ≡ 
   unfolding ◌>>=◌ and_then
   block-members = rw e
 
-module _ (b : Block) (s : List ℕ) (t : Current) {u : Current} (l : LiesIn s 0 t) (r : Arrived) (h : Expects s t 0x7B r) (q : r ≡ At u) where
+module _ (b : Block) (s : List ℕ) (t u : Token) (l : LiesIn s 0 t) (h : Expects s t 0x7B (Ok u)) where
   abbrev block_of : Answer ℕ (List (MemberOf b))
   block_of = block (between_by (comma_of b)) (member_of b) (stream s t)
 
   pub brace-onward : Onward s t u 1
-  brace-onward = expect-onward s "{" t u r (omega arith) l h q
+  brace-onward = expect-onward s "{" t (omega arith) l h
 
   pub block_halted : {c p : ℕ} → members_of b (stream s u) ≡ refused c p → block_of ≡ refused c p
-  block_halted e = block-members b (stream s t) (expect-at s "{" t r h q) ∙ e
+  block_halted e = block-members b (stream s t) (h.expects "{" refl) ∙ e
 
   -- what was stored behind the brace
-  pub block-gathered : (n x : ℕ) (ws ts vs us : List ℕ) (k : Listed)
-      → GathersTo (members_of b (stream s u)) (groups_of (kind_of b) (branches_of b) (kinds_of b)) s u 1 (lent n ws x ts) vs us k
-      → GathersTo block_of (groups_of (kind_of b) (branches_of b) (kinds_of b)) s t 2 (lent n ws x ts) vs us k
-  block-gathered n x ws ts vs us (Done v m y count) g =
+  pub block-gathered : (a c : Lent) (k : Result (Token × ℕ) Stop)
+      → GathersTo (members_of b (stream s u)) (groups_of (kind_of b) (branches_of b) (kinds_of b)) s u 1 a c k
+      → GathersTo block_of (groups_of (kind_of b) (branches_of b) (kinds_of b)) s t 2 a c k
+  block-gathered a c (Ok (v, count)) g =
       let o = brace-onward in
       let z = o.ahead in
       record {
         members = g.members;
-        gives = block-members b (stream s t) (expect-at s "{" t r h q) ∙ g.gives;
+        gives = block-members b (stream s t) (h.expects "{" refl) ∙ g.gives;
         counted = g.counted;
         onward = onward_then o g.onward;
         lays = lays-between 0 g.lays (omega arith) (omega arith) (omega arith);
       }
-  block-gathered n x ws ts vs us (Refused c p) g = block_halted g
+  block-gathered a c (Err e) g = block_halted g
+
+-- a store over nothing has no words and no bytes
+pub lent-nothing : (n m : ℕ) → eqb n 0 && eqb m 0 ≡ true → (n ≡ 0) × (m ≡ 0)
+lent-nothing n m e = go (eqb n 0) (eqb m 0) refl refl e
+  where
+    go : (a b : Bool) → eqb n 0 ≡ a → eqb m 0 ≡ b → a && b ≡ true → (n ≡ 0) × (m ≡ 0)
+    go true true p q r = (is_zero n p, is_zero m q)
+    go true false p q r = absurd (let z : ◌≡◌ {A = ℕ} 0 1 = cc in omega arith)
+    go false b p q r = absurd (let z : ◌≡◌ {A = ℕ} 0 1 = cc in omega arith)

@@ -10,7 +10,9 @@ use lib.Dec.{eqb}
 use lib.ListN.{length}
 use Rattle.basics.specs.Basics.{letters, every, is_empty, picked, first_element, concat}
 use Rattle.error.specs.Causes.{unexpected_token, second_skip}
-use Rattle.error.specs.declared.Cause.{Cause}
+use Rattle.std.specs.Prelude.{Some, None, Result, Ok, Err}
+use Rattle.error.specs.declared.Stop.{Stop}
+use Rattle.lexer.specs.declared.Part.{Part}
 use Rattle.error.specs.Promise.{cause_number}
 use Rattle.characters.specs.Utf8.{encode_all}
 use Rattle.characters.specs.Places.{cut}
@@ -24,23 +26,16 @@ use Rattle.notation.specs.Parser.{Answer, read, refused, Parser, and_then, ◌>>
 use Rattle.notation.specs.Members.{TokenMember, token_precedence, token_conflict, token_rule, token_literal, LocalMember, local_precedence, local_rule, local_fallback, external_token, external_conflicts, SkipMember, skip_top_rule, skip_rule, Member, declaration, dialects}
 use Rattle.notation.specs.Declarations.{block, parse_source, parse_tokens, parse_local_tokens, parse_external_token_set, parse_external_tokens, parse_external_specializer, declares, seen, parse_skip_declaration}
 use Rattle.notation.specs.Expressions.{parse_braced_expression, choice_at}
-use Rattle.tokens.specs.Promise.{stream, start_in, end_in, mark_of, arrival, LiesIn, Lies, Expects, Identifies}
-use Rattle.parser.specs.Storing.{Lent, lent, Stores, StoresPlain, node, flat, nodes_of}
+use Rattle.tokens.specs.Promise.{stream, start_in, end_in, mark_of, LiesIn, Expects, EatsName, Identifies}
+use Rattle.parser.specs.Storing.{Lent, Stores, node, flat, nodes_of}
 use Rattle.parser.specs.Steps.{Onward, Lays, Gives, Parses, between_by}
 use Rattle.parser.specs.Shapes.{IsToken, YieldsBraced}
-use Rattle.tokens.specs.declared.Current.{Current}
-use Rattle.tokens.specs.declared.Arrived.{Arrived}
-use Rattle.tokens.specs.declared.Arrived.TheVariants.{At, Refused}
-use Rattle.tokens.specs.declared.Taken.{Taken}
-use Rattle.tokens.specs.declared.Taken.TheVariants as G
-use Rattle.parser.specs.declared.props.Parsed.{Parsed}
-use Rattle.parser.specs.declared.props.Parsed.TheVariants as P
+use Rattle.lexer.specs.declared.Token.{Token}
 use Rattle.parser.specs.declared.parts.Shape.{Shape}
 use Rattle.tokens.proofs.Stream.{start-of, mark-of}
 use Rattle.parser.proofs.Onward.{placed_in, onward_then, onward-least}
 use Rattle.parser.proofs.Lists.{lays-then, lays-between}
-use Rattle.parser.proofs.Ready.{lays-node, lays_parent, lays-leaf, identifier_at, name-got, part-short, flat-length, nodes-branch, nodes-leaf, nodes-first, count-first}
-use Rattle.parser.proofs.Took.{expect-at, expect_not}
+use Rattle.parser.proofs.Ready.{lays-node, lays_parent, lays-leaf, name-got, part-short, flat-length, nodes-branch, nodes-leaf, nodes-first, count-first}
 use Rattle.declarations.specs.Sources.{GotSource}
 use Rattle.declarations.proofs.SourceLaws.{source-few}
 use Rattle.declarations.proofs.RuleReads.{levels-are}
@@ -51,7 +46,6 @@ use Rattle.reader.specs.Directives.{past, local_at, tokens_branch, local_branch,
 use Rattle.reader.specs.declared.blocks.Block.{Block}
 use Rattle.reader.specs.declared.directives.Seen.{Seen}
 use Rattle.reader.specs.declared.directives.Declared.{Declared}
-use Rattle.reader.specs.declared.directives.Declared.TheVariants as D
 use Rattle.reader.specs.declared.blocks.Block.TheVariants.{Tokens as TokensBlock, LocalTokens, ExternalTokens, Specializer, Skip}
 use Rattle.reader.proofs.RoomyLaws.{roomy_step, roomy_on}
 use Rattle.reader.proofs.TopLaws.{parses_as, past_not, past-at, past-onward}
@@ -68,7 +62,7 @@ abbrev pub groups : (b : Block) → List (MemberOf b) → List Branch
 groups b ms = groups_of (kind_of b) (branches_of b) (kinds_of b) ms
 
 -- each branch has a node, so they are few
-pub gathers-small : {M : Type 0} {D : Answer ℕ (List M)} {f : List M → List Branch} {s : List ℕ} {t u : Current} {i c : ℕ} {a b : Lent} → Gathers D f s t i a u b c → length s ≤ 0x10000 → c ≤ 0x20000
+pub gathers-small : {M : Type 0} {D : Answer ℕ (List M)} {f : List M → List Branch} {s : List ℕ} {t u : Token} {i c : ℕ} {a b : Lent} → Gathers D f s t i a u b c → length s ≤ 0x10000 → c ≤ 0x20000
 gathers-small {f = f} {s} {u = u} g h =
     let p = flat-length (λ (b : Branch). b) (f g.members) in
     let q = g.lays.bound in
@@ -79,29 +73,29 @@ gathers-small {f = f} {s} {u = u} g h =
 -- ------------------------------------------------------------------ a node over a block
 
 -- what storing a node without a text asks
-pub plain_asks : {s : List ℕ} {t : Current} {n x p c : ℕ} → Roomy s t n x → p ≤ length s → c ≤ 0x40000 → (n + 7 < 2 ^ 64) × (p < 2 ^ 32) × (c < 2 ^ 32)
+pub plain_asks : {s : List ℕ} {t : Token} {l : Lent} {p c : ℕ} → Roomy s t l → p ≤ length s → c ≤ 0x40000 → (l.n + 7 < 2 ^ 64) × (p < 2 ^ 32) × (c < 2 ^ 32)
 plain_asks {s} {t} r h k =
     let a = r.room in
     let b = placed_in s t r.lies in
     let d = r.small in
     (omega arith, omega arith, omega arith)
 
-module _ {M : Type 0} {E : Answer ℕ (List M)} {f : List M → List Branch} {s : List ℕ} {t u v : Current} {n x m y i j count : ℕ} {ws ts vs us : List ℕ} where
+module _ {M : Type 0} {E : Answer ℕ (List M)} {f : List M → List Branch} {s : List ℕ} {t u v : Token} {a b : Lent} {i j count : ℕ} where
   -- what storing it asks
-  pub over_asks : {p c : ℕ} → Roomy s t n x → Onward s t u i → Gathers E f s u j (lent n ws x ts) v (lent m vs y us) count → p ≤ length s → c ≤ count + 2 → (m + 7 < 2 ^ 64) × (p < 2 ^ 32) × (c < 2 ^ 32)
+  pub over_asks : {p c : ℕ} → Roomy s t a → Onward s t u i → Gathers E f s u j a v b count → p ≤ length s → c ≤ count + 2 → (b.n + 7 < 2 ^ 64) × (p < 2 ^ 32) × (c < 2 ^ 32)
   over_asks r o g h k = let d = gathers-small g r.small in plain_asks (roomy_on (roomy_step r o) g.onward g.lays) h (omega arith)
 
-module _ {M B : Type 0} {E : Answer ℕ (List M)} {f : List M → List Branch} {s : List ℕ} {t u v : Current} {n x m i count p : ℕ} {ws vs ts : List ℕ} {a : Lent} where
+module _ {M B : Type 0} {E : Answer ℕ (List M)} {f : List M → List Branch} {s : List ℕ} {t u v : Token} {i count p : ℕ} {a b c : Lent} where
   -- a token stands before the block
-  pub over-given : (k : ℕ) (d : B → Branch) {D : Answer ℕ B} → Onward s t u 1 → (g : Gathers E f s u i a v (lent n ws x ts) count) (value : B) → D ≡ read value (stream s v)
-      → nodes (d value) ≡ flat nodes (f g.members) ++ node k p [] 0 0 (length (f g.members)) ∷ [] → StoresPlain (node k p [] 0 0 count) n ws m vs → Gives D (nodes_of d) s t a v (lent m vs x ts)
+  pub over-given : (k : ℕ) (d : B → Branch) {D : Answer ℕ B} → Onward s t u 1 → (g : Gathers E f s u i a v b count) (value : B) → D ≡ read value (stream s v)
+      → nodes (d value) ≡ flat nodes (f g.members) ++ node k p [] 0 0 (length (f g.members)) ∷ [] → Stores (node k p [] 0 0 count ∷ []) b c → Gives D (nodes_of d) s t a v c
   over-given k d o g value e same st =
       let o₁ = o.ahead in
       record {
         value = value;
         gives = e;
         onward = onward-least 1 (onward_then o g.onward) (omega arith);
-        lays = rw (same, g.counted) (lays_parent g.lays (st.stores x ts) o (omega arith) (omega arith));
+        lays = rw (same, g.counted) (lays_parent g.lays st o (omega arith) (omega arith));
       }
 
 -- something is made of a list
@@ -133,26 +127,26 @@ tokens-nodes : (p : ℕ) (ms : List (TokenMember ℕ)) → nodes (tokens_branch 
 unfolding encode_all declaration_branch
 tokens-nodes p ms = nodes-branch (plain 8 p) _ ∙ rw ((tokens-grouped ms).stored, (tokens-grouped ms).counted)
 
-tokens-is : (s : List ℕ) (t : Current) → parse_tokens (stream s t) ≡ past (made_of (block_of TokensBlock) (tokens_by (start_in t))) (stream s t)
+tokens-is : (s : List ℕ) (t : Token) → parse_tokens (stream s t) ≡ past (made_of (block_of TokensBlock) (tokens_by (start_in t))) (stream s t)
 unfolding parse_tokens here ◌>>=◌ and_then
 tokens-is s t = rw (parse_tokens, start-of s t)
 
-module _ (s : List ℕ) (t : Current) (r : Arrived) (h : (next (stream s t) ≡ arrival s r) × Lies s (end_in t) r) where
-  pub tokens_halt : {c : Cause} {p : ℕ} → r ≡ Refused c p → parse_tokens (stream s t) ≡ refused (cause_number c) p
-  tokens_halt q = tokens-is s t ∙ past_not s t r h _ q
+module _ (s : List ℕ) (t : Token) where
+  pub tokens_halt : {c p : ℕ} → next (stream s t) ≡ refused c p → parse_tokens (stream s t) ≡ refused c p
+  tokens_halt q = tokens-is s t ∙ past_not s t _ q
 
-  module _ {u : Current} (q : r ≡ At u) where
+  module _ (u : Token) (h : (next (stream s t) ≡ read tt (stream s u)) × LiesIn s (end_in t) u) where
     tokens-at : parse_tokens (stream s t) ≡ made_of (block_of TokensBlock) (tokens_by (start_in t)) (stream s u)
-    tokens-at = tokens-is s t ∙ past-at s t r h q _
+    tokens-at = tokens-is s t ∙ past-at s t u h _
 
     pub tokens-refused : {c p : ℕ} → block_of TokensBlock (stream s u) ≡ refused c p → parse_tokens (stream s t) ≡ refused c p
     tokens-refused f = tokens-at ∙ made_halt (block_of TokensBlock) (tokens_by (start_in t)) (stream s u) f
 
-    pub tokens-given : {v : Current} {n x m i count p : ℕ} {ws vs ts : List ℕ} {a : Lent} → IsToken t → LiesIn s 0 t
-        → Gathers (block_of TokensBlock (stream s u)) (groups TokensBlock) s u i a v (lent n ws x ts) count → p ≡ start_in t → StoresPlain (node 8 p [] 0 0 count) n ws m vs
-        → Gives (parse_tokens (stream s t)) (nodes_of tokens_branch) s t a v (lent m vs x ts)
+    pub tokens-given : {v : Token} {i count p : ℕ} {a b c : Lent} → IsToken t → LiesIn s 0 t
+        → Gathers (block_of TokensBlock (stream s u)) (groups TokensBlock) s u i a v b count → p ≡ start_in t → Stores (node 8 p [] 0 0 count ∷ []) b c
+        → Gives (parse_tokens (stream s t)) (nodes_of tokens_branch) s t a v c
     tokens-given i l g e st =
-        over-given 8 tokens_branch (past-onward s t r h q i l) g (tokens_by (start_in t) g.members) (tokens-at ∙ made-read (block_of TokensBlock) (tokens_by (start_in t)) (stream s u) g.gives)
+        over-given 8 tokens_branch (past-onward s t u h i l) g (tokens_by (start_in t) g.members) (tokens-at ∙ made-read (block_of TokensBlock) (tokens_by (start_in t)) (stream s u) g.gives)
         (rw e (tokens-nodes (start_in t) g.members)) st
 
 -- ------------------------------------------------------------------ `@local tokens`
@@ -165,7 +159,7 @@ local_nodes : (p : ℕ) (ms : List (LocalMember ℕ)) → length (picked local_f
 unfolding encode_all declaration_branch
 local_nodes p ms h = nodes-branch (plain 12 p) _ ∙ rw ((local_grouped ms h).stored, (local_grouped ms h).counted)
 
-module _ (p : ℕ) (s : List ℕ) (t : Current) where
+module _ (p : ℕ) (s : List ℕ) (t : Token) where
   pub local_halt : {c q : ℕ} → eat_name "tokens" (stream s t) ≡ refused c q → local_at p (stream s t) ≡ refused c q
   unfolding expect_name ◌>>=◌ and_then
   local_halt e = rw (expect_name, e)
@@ -185,14 +179,25 @@ module _ (p : ℕ) (s : List ℕ) (t : Current) where
     local_read : {ms : List (LocalMember ℕ)} {vs : Tokens ℕ} → block_of LocalTokens us ≡ read ms vs → local_at p (stream s t) ≡ read (local_by p ms) vs
     local_read f = local_by_lem ∙ made-read (block_of LocalTokens) (local_by p) us f
 
-  pub local_given : {u v : Current} {n x m i count : ℕ} {ws vs ts : List ℕ} {a : Lent} → eat_name "tokens" (stream s t) ≡ read true (stream s u) → Onward s t u 1
-      → Gathers (block_of LocalTokens (stream s u)) (groups LocalTokens) s u i a v (lent n ws x ts) count → StoresPlain (node 12 p [] 0 0 count) n ws m vs
-      → Gives (local_at p (stream s t)) (nodes_of local_branch) s t a v (lent m vs x ts)
+  pub local_given : {u v : Token} {i count : ℕ} {a b c : Lent} → eat_name "tokens" (stream s t) ≡ read true (stream s u) → Onward s t u 1
+      → Gathers (block_of LocalTokens (stream s u)) (groups LocalTokens) s u i a v b count → Stores (node 12 p [] 0 0 count ∷ []) b c
+      → Gives (local_at p (stream s t)) (nodes_of local_branch) s t a v c
   local_given e o g st = over-given 12 local_branch o g (local_by p g.members) (local_read e g.gives) (local_nodes p g.members (block-one-fallback (stream s _) (stream s _) g.members g.gives)) st
 
 pub tokens-plain : is_plain (letters "tokens") ≡ true
 unfolding every
 tokens-plain = refl
+
+-- the word `tokens` is taken, is not there, or is refused
+module _ {s : List ℕ} {t : Token} where
+  pub tokens_taken : {u : Token} → EatsName s t (letters "tokens") (Ok (Some u)) → eat_name "tokens" (stream s t) ≡ read true (stream s u)
+  tokens_taken k = k.eats "tokens" refl tokens-plain
+
+  pub tokens_passed : EatsName s t (letters "tokens") (Ok None) → eat_name "tokens" (stream s t) ≡ read false (stream s t)
+  tokens_passed k = k.eats "tokens" refl tokens-plain
+
+  pub tokens_not : {e : Stop} → EatsName s t (letters "tokens") (Err e) → eat_name "tokens" (stream s t) ≡ refused (cause_number e.cause) e.place
+  tokens_not k = k.eats "tokens" refl tokens-plain
 
 -- ------------------------------------------------------------------ external sets
 
@@ -220,41 +225,41 @@ module _ (b : Block) (ts : Tokens ℕ) where
       set-read : {ms : List (MemberOf b)} {ws : Tokens ℕ} → block_of b vs ≡ read ms ws → external_set b ts ≡ read (set_by b n.name x ms) ws
       set-read g = set-by ∙ made-read (block_of b) (set_by b n.name x) vs g
 
-module _ {s : List ℕ} {t u v : Current} {a e b f n x m y : ℕ} {ws ts vs us : List ℕ} (r : Roomy s t n x) (k : Taken) (i : Identifies s t k) (q : k ≡ G.Got a e u) (g : GotSource s u b f v)
-    (st : Stores (node 15 0 (encode_all (decode_string (part_of s b f))) 0 0 0 ∷ []) (lent n ws x ts) (lent m vs y us) × (y ≤ x + length (cut s b f))) where
-  source-lays : Lays s u v 0 (node 15 0 (encode_all (decode_string (part_of s b f))) 0 0 0 ∷ []) (lent n ws x ts) (lent m vs y us)
+module _ {s : List ℕ} {t u v : Token} {a b : Part} {l m : Lent} (r : Roomy s t l) (i : Identifies s t (Ok (a, u))) (g : GotSource s u b v)
+    (st : Stores (node 15 0 (encode_all (decode_string (part_of s b))) 0 0 0 ∷ []) l m) (few : m.x ≤ l.x + length (cut s b.from b.to)) where
+  source-lays : Lays s u v 0 (node 15 0 (encode_all (decode_string (part_of s b))) 0 0 0 ∷ []) l m
   source-lays =
-      let w = source-few g.part st.0 st.1 in
+      let w = source-few g.part st few in
       let z = g.between in
-      lays-leaf st.0 (onward-least 1 g.onward (omega arith)) (omega arith)
+      lays-leaf st (onward-least 1 g.onward (omega arith)) (omega arith)
 
   -- behind the source's node
-  pub set_room : Roomy s v m y
-  set_room = roomy_on (roomy_step r (name-got s k r.lies q i).1.onward) g.onward source-lays
+  pub set_room : Roomy s v m
+  set_room = roomy_on (roomy_step r (name-got s r.lies i).1.onward) g.onward source-lays
 
-  module _ (d : Block) {w : Current} {o z count : ℕ} {vs₁ us₁ : List ℕ} (h : Gathers (block_of d (stream s v)) (groups d) s v 2 (lent m vs y us) w (lent o vs₁ z us₁) count) where
+  module _ (d : Block) {w : Token} {count : ℕ} {o : Lent} (h : Gathers (block_of d (stream s v)) (groups d) s v 2 m w o count) where
     -- what storing the last node asks
-    pub set_asks : {p c : ℕ} → p ≤ length s → c ≤ count + 2 → (o + 7 < 2 ^ 64) × (p < 2 ^ 32) × (c < 2 ^ 32) × (z + length (cut s a e) < 2 ^ 32)
-    set_asks j l =
+    pub set_asks : {p c : ℕ} → p ≤ length s → c ≤ count + 2 → (o.n + 7 < 2 ^ 64) × (p < 2 ^ 32) × (c < 2 ^ 32) × (o.x + length (cut s a.from a.to) < 2 ^ 32)
+    set_asks j k =
         let y₁ = roomy_on set_room h.onward h.lays in
         let y₂ = y₁.room in
         let y₃ = y₁.space in
         let y₄ = placed_in s w y₁.lies in
         let y₅ = gathers-small h r.small in
         let y₆ = r.small in
-        let y₇ = (part-short s (name-got s k r.lies q i).0.part).short in
+        let y₇ = (part-short s (name-got s r.lies i).0.part).short in
         (omega arith, omega arith, omega arith, omega arith)
 
-    pub set_given : (before : ℕ) {kind start value : ℕ} {c : Lent} → Stores (node kind start (cut s a e) value 0 (before + 1 + count) ∷ []) (lent o vs₁ z us₁) c
-        → Gives (external_set d (stream s t)) (set_nodes d kind start value before) s t (lent n ws x ts) w c
+    pub set_given : (before : ℕ) {kind start value : ℕ} {c : Lent} → Stores (node kind start (cut s a.from a.to) value 0 (before + 1 + count) ∷ []) o c
+        → Gives (external_set d (stream s t)) (set_nodes d kind start value before) s t l w c
     set_given before st₁ =
-        let l = name-got s k r.lies q i in
+        let k = name-got s r.lies i in
         record {
-          value = set_by d (part_of s a e) (decode_string (part_of s b f)) h.members;
-          gives = set-read d (stream s t) (identifier_at s _ k i q) g.gives h.gives;
-          onward = onward-least 1 (onward_then l.1.onward (onward_then g.onward h.onward)) (omega arith);
-          lays = rw (nodes-leaf (named 15 0 (decode_string (part_of s b f))), l.0.part.bytes, h.counted)
-              (lays_parent (lays-then source-lays h.lays) st₁ l.1.onward l.1.past (omega arith));
+          value = set_by d (part_of s a) (decode_string (part_of s b)) h.members;
+          gives = set-read d (stream s t) i.takes g.gives h.gives;
+          onward = onward-least 1 (onward_then k.1.onward (onward_then g.onward h.onward)) (omega arith);
+          lays = rw (nodes-leaf (named 15 0 (decode_string (part_of s b))), k.0.part.bytes, h.counted)
+              (lays_parent (lays-then source-lays h.lays) st₁ k.1.onward k.1.past (omega arith));
         }
 
 -- ------------------------------------------------------------------ external declarations
@@ -309,10 +314,10 @@ external-is : (p : ℕ) (ts : Tokens ℕ) → parse_external_tokens p ts ≡ set
 unfolding parse_external_tokens parse_external_token_set
 external-is p ts = refl
 
-pub external-parsed : (p : ℕ) (s : List ℕ) (t : Current) (a : Lent) (ws ts : List ℕ) (f : Parsed) → Parses (external_set ExternalTokens (stream s t)) (set_nodes ExternalTokens 16 p 0 0) s t a ws ts f
-    → Parses (parse_external_tokens p (stream s t)) (nodes_of declaration_branch) s t a ws ts f
-external-parsed p s t a ws ts f =
-    parses_as (external_of p) (set_nodes ExternalTokens 16 p 0 0) (nodes_of declaration_branch) (external-nodes p) _ _ (external-is p (stream s t) ∙ set_then_lem ExternalTokens (external_of p) (stream s t)) s t a ws ts f
+pub external-parsed : (p : ℕ) (s : List ℕ) (t : Token) (a c : Lent) (f : Result Token Stop) → Parses (external_set ExternalTokens (stream s t)) (set_nodes ExternalTokens 16 p 0 0) s t a c f
+    → Parses (parse_external_tokens p (stream s t)) (nodes_of declaration_branch) s t a c f
+external-parsed p s t a c f =
+    parses_as (external_of p) (set_nodes ExternalTokens 16 p 0 0) (nodes_of declaration_branch) (external-nodes p) _ _ (external-is p (stream s t) ∙ set_then_lem ExternalTokens (external_of p) (stream s t)) s t a c f
 
 -- ------------------------------------------------------------------ external specializers
 
@@ -346,17 +351,17 @@ module _ (p : ℕ) (k : SpecializeKind) (ts : Tokens ℕ) where
   unfolding parse_external_specializer parse_external_token_set ◌>>=◌ and_then
   specializer_then e = rw (parse_external_specializer, levels-are, e)
 
-pub specializer_parsed : (p : ℕ) (k : SpecializeKind) (s : List ℕ) (t : Current) {u : Current} {a b : Lent} {q : ℕ} {shape : Shape} {value : ℕ} → value ≡ specialize_value k
-    → YieldsBraced (parse_braced_expression (choice_at 64) (stream s t)) s t a u b q shape → (ws ts : List ℕ) (f : Parsed)
-    → Parses (external_set Specializer (stream s u)) (set_nodes Specializer 18 p value 1) s u b ws ts f → Parses (parse_external_specializer p k (stream s t)) (nodes_of declaration_branch) s t a ws ts f
-specializer_parsed p k s t {u} e g ws ts (P.Done v n x) f =
+pub specializer_parsed : (p : ℕ) (k : SpecializeKind) (s : List ℕ) (t : Token) {u : Token} {a b : Lent} {q : ℕ} {shape : Shape} {value : ℕ} → value ≡ specialize_value k
+    → YieldsBraced (parse_braced_expression (choice_at 64) (stream s t)) s t a u b q shape → (c : Lent) (f : Result Token Stop)
+    → Parses (external_set Specializer (stream s u)) (set_nodes Specializer 18 p value 1) s u b c f → Parses (parse_external_specializer p k (stream s t)) (nodes_of declaration_branch) s t a c f
+specializer_parsed p k s t {u} e g c (Ok v) f =
     record {
       value = specializer_of p k g.yields.tree f.value;
       gives = specializer_then p k (stream s t) g.yields.gives ∙ then-read Specializer (specializer_of p k g.yields.tree) (stream s u) f.gives;
       onward = onward-least 1 (onward_then g.yields.onward f.onward) (omega arith);
       lays = rw (specializer_nodes p k g.yields.tree f.value, ← e) (lays-then g.yields.lays f.lays);
     }
-specializer_parsed p k s t {u} e g ws ts (P.Refused c z) f =
+specializer_parsed p k s t {u} e g c (Err d) f =
     specializer_then p k (stream s t) g.yields.gives ∙ then_halt Specializer (specializer_of p k g.yields.tree) (stream s u) f
 
 -- ------------------------------------------------------------------ top rules of a scoped skip
@@ -384,30 +389,30 @@ unfolding ◌>>=◌ and_then
 skips-at ts e = rw e
 
 -- whether a block of a scoped skip that is read has a top rule
-abbrev pub HoldsTop : List ℕ → Current → Bool → Type 0
+abbrev pub HoldsTop : List ℕ → Token → Bool → Type 0
 HoldsTop s t r = (ms : List (SkipMember ℕ)) (us : Tokens ℕ) → skips (stream s t) ≡ read ms us → not (is_empty (picked skip_top_rule ms)) ≡ r
 
 -- those that are read are those that the first group's size counts
-pub first-top : (s : List ℕ) (t : Current) (r : Arrived) → Expects s t 0x7B r → {u : Current} → r ≡ At u → {n : ℕ} → FirstIs Skip s u n → HoldsTop s t (not (eqb n 0))
-first-top s t r h q {n} f ms us e =
-    some_size (picked skip_top_rule ms) (group_at (place_of Skip) (branches_of Skip) 0 ms) n (tops_group ms) (f ms us (sym (skips-at (stream s t) (expect-at s "{" t r h q)) ∙ e))
+pub first-top : (s : List ℕ) (t u : Token) → Expects s t 0x7B (Ok u) → {n : ℕ} → FirstIs Skip s u n → HoldsTop s t (not (eqb n 0))
+first-top s t u h {n} f ms us e =
+    some_size (picked skip_top_rule ms) (group_at (place_of Skip) (branches_of Skip) 0 ms) n (tops_group ms) (f ms us (sym (skips-at (stream s t) (h.expects "{" refl)) ∙ e))
 
-pub scoped_unopened : (s : List ℕ) (t : Current) (r : Arrived) → Expects s t 0x7B r → {c : Cause} {p : ℕ} → r ≡ Refused c p → skips (stream s t) ≡ refused (cause_number c) p
-scoped_unopened s t r h q = skips_halt (stream s t) (expect_not s "{" t r h q)
+pub scoped_unopened : (s : List ℕ) (t : Token) {e : Stop} → Expects s t 0x7B (Err e) → skips (stream s t) ≡ refused (cause_number e.cause) e.place
+scoped_unopened s t h = skips_halt (stream s t) (h.expects "{" refl)
 
 -- ------------------------------------------------------------------ scoped skips
 
-pub scoping : {start : ℕ} {s : List ℕ} {t v : Current} {n x m k y count : ℕ} {ws ts vs us vs₁ : List ℕ} {top : Bool} → HoldsTop s t top
-    → Gathers (block_of Skip (stream s t)) (groups Skip) s t 2 (lent n ws x ts) v (lent m vs y us) count → StoresPlain (node 23 start [] 0 0 (1 + count)) m vs k vs₁
-    → Scoping start s t (lent n ws x ts) v (lent k vs₁ y us) 23 top
-scoping {s = s} {v = v} {y = y} {us = us} h g st =
+pub scoping : {start : ℕ} {s : List ℕ} {t v : Token} {count : ℕ} {a b c : Lent} {top : Bool} → HoldsTop s t top
+    → Gathers (block_of Skip (stream s t)) (groups Skip) s t 2 a v b count → Stores (node 23 start [] 0 0 (1 + count) ∷ []) b c
+    → Scoping start s t a v c 23 top
+scoping {s = s} {v = v} h g st =
     record {
       members = g.members;
       gives = g.gives;
       onward = g.onward;
       kinds = refl;
       tops = h g.members (stream s v) g.gives;
-      lays = rw g.counted (lays-node g.lays (st.stores y us) (omega arith) (omega arith));
+      lays = rw g.counted (lays-node g.lays st (omega arith) (omega arith));
     }
 
 -- ------------------------------------------------------------------ `@skip`
@@ -435,7 +440,7 @@ module _ (p : ℕ) (before : List (Member ℕ)) where
   unfolding parse_skip_declaration ◌>>=◌ and_then
   skip_halt ts e = rw (parse_skip_declaration, levels-are, e)
 
-  module _ (s : List ℕ) (t v : Current) {x : Expression ℕ} (e : parse_braced_expression (choice_at 64) (stream s t) ≡ read x (stream s v)) where
+  module _ (s : List ℕ) (t v : Token) {x : Expression ℕ} (e : parse_braced_expression (choice_at 64) (stream s t) ≡ read x (stream s v)) where
     skip_by : skip_at p before (stream s t)
         ≡ and_then (choose (eqb (mark_of v) 0x7B) (made_of (block_of Skip) (scoped_by x)) (choose (seen 22 before) (refuse second_skip p) (pure (Declaration.main_skip x))) (stream s v)) (λ d. pure (declaration d))
     unfolding parse_skip_declaration ◌>>=◌ and_then kind
@@ -467,29 +472,29 @@ no_dialects : {d : Declaration ℕ} {ns : List (Identifier ℕ)} → declaration
 no_dialects e = let z : ◌≡◌ {A = ℕ} 0 1 = cc in omega arith
 
 -- with its keyword
-module _ (k : Seen) (s : List ℕ) (t : Current) (r : Arrived) (h : (next (stream s t) ≡ arrival s r) × Lies s (end_in t) r) where
+module _ (k : Seen) (s : List ℕ) (t : Token) where
   abbrev skipping : List (Member ℕ) → Answer ℕ (Member ℕ)
   skipping before = past (declares (parse_skip_declaration (start_in t) before)) (stream s t)
 
-  pub keyword_halt : {c : Cause} {p : ℕ} → r ≡ Refused c p → (before : List (Member ℕ)) → SeenIs k before → skipping before ≡ refused (cause_number c) p
-  keyword_halt q = λ before z. past_not s t r h (skip_at (start_in t) before) q
+  pub keyword_halt : {c p : ℕ} → next (stream s t) ≡ refused c p → (before : List (Member ℕ)) → SeenIs k before → skipping before ≡ refused c p
+  keyword_halt q = λ before z. past_not s t (skip_at (start_in t) before) q
 
-  module _ {u : Current} (j : r ≡ At u) where
+  module _ (u : Token) (h : (next (stream s t) ≡ read tt (stream s u)) × LiesIn s (end_in t) u) where
     keyword-at : (before : List (Member ℕ)) → skipping before ≡ skip_at (start_in t) before (stream s u)
-    keyword-at before = past-at s t r h j (skip_at (start_in t) before)
+    keyword-at before = past-at s t u h (skip_at (start_in t) before)
 
     pub braced_halt : {c p : ℕ} → parse_braced_expression (choice_at 64) (stream s u) ≡ refused c p → (before : List (Member ℕ)) → SeenIs k before → skipping before ≡ refused c p
     braced_halt e = λ before z. keyword-at before ∙ skip_halt (start_in t) before (stream s u) e
 
-    module _ {v : Current} {a b : Lent} {q : ℕ} {shape : Shape} (g : YieldsBraced (parse_braced_expression (choice_at 64) (stream s u)) s u a v b q shape) {c : ℕ} (e : c ≡ mark_of v) where
+    module _ {v : Token} {a b : Lent} {q : ℕ} {shape : Shape} (g : YieldsBraced (parse_braced_expression (choice_at 64) (stream s u)) s u a v b q shape) {c : ℕ} (e : c ≡ mark_of v) where
       pub second-refused : {p : ℕ} → (c ≡ 0x7B → ⊥) → k.skip ≡ true → p ≡ start_in t → (before : List (Member ℕ)) → SeenIs k before → skipping before ≡ refused second_skip p
       second-refused m f d = λ before z. rw d (keyword-at before ∙ skip-second (start_in t) before s u v g.yields.gives (λ y. m (e ∙ y)) (z.skip ∙ f))
 
       module _ (i : IsToken t) (l : LiesIn s 0 t) where
         -- the token behind the braces is a brace
-        pub scoped_declared : c ≡ 0x7B → (ws ts : List ℕ) (d : Declared) → Scopes q s v b ws ts d → DeclaresTo skipping k s t a ws ts d
-        scoped_declared m ws ts (D.Done w n x kind top) f =
-            let o = past-onward s t r h j i l in
+        pub scoped_declared : c ≡ 0x7B → (l : Lent) (d : Result Declared Stop) → Scopes q s v b l d → DeclaresTo skipping k s t a l d
+        scoped_declared m o₂ (Ok d) f =
+            let o = past-onward s t u h i l in
             let o₁ = o.ahead in
             record {
               value = declaration (scoped_by g.yields.tree f.members);
@@ -501,23 +506,23 @@ module _ (k : Seen) (s : List ℕ) (t : Current) (r : Arrived) (h : (next (strea
               lays = rw (flat-one (declaration_branch (scoped_by g.yields.tree f.members)), scoped_nodes g.yields.tree f.members, g.yields.shown.starts)
                   (lays-between 0 (lays-then g.yields.lays f.lays) (omega arith) (omega arith) (omega arith));
             }
-        scoped_declared m ws ts (D.Refused d p) f = λ before z. keyword-at before ∙ scoped_halt (start_in t) before s u v g.yields.gives (sym e ∙ m) f
+        scoped_declared m o₂ (Err d) f = λ before z. keyword-at before ∙ scoped_halt (start_in t) before s u v g.yields.gives (sym e ∙ m) f
 
-module _ (k : Seen) (s : List ℕ) (t : Current) (r : Arrived) (h : (next (stream s t) ≡ arrival s r) × Lies s (end_in t) r) {u v : Current} (j : r ≡ At u) {a : Lent} {q n x m c : ℕ} {ws ts vs : List ℕ} {shape : Shape}
-    (g : YieldsBraced (parse_braced_expression (choice_at 64) (stream s u)) s u a v (lent n ws x ts) q shape) (e : c ≡ mark_of v) where
+module _ (k : Seen) (s : List ℕ) (t u : Token) (h : (next (stream s t) ≡ read tt (stream s u)) × LiesIn s (end_in t) u) {v : Token} {a b : Lent} {q c : ℕ} {shape : Shape}
+    (g : YieldsBraced (parse_braced_expression (choice_at 64) (stream s u)) s u a v b q shape) (e : c ≡ mark_of v) where
   -- it is none
-  pub main_declared : (i : IsToken t) (l : LiesIn s 0 t) → (c ≡ 0x7B → ⊥) → k.skip ≡ false → StoresPlain (node 22 q [] 0 0 1) n ws m vs
-      → Declares (λ before. past (declares (parse_skip_declaration (start_in t) before)) (stream s t)) k s t a v (lent m vs x ts) 22 false
+  pub main_declared : (i : IsToken t) (l : LiesIn s 0 t) → (c ≡ 0x7B → ⊥) → k.skip ≡ false → {d : Lent} → Stores (node 22 q [] 0 0 1 ∷ []) b d
+      → Declares (λ before. past (declares (parse_skip_declaration (start_in t) before)) (stream s t)) k s t a v d 22 false
   main_declared i l y f st =
-      let o = past-onward s t r h j i l in
+      let o = past-onward s t u h i l in
       let o₁ = o.ahead in
       record {
         value = declaration (Declaration.main_skip g.yields.tree);
-        gives = λ before z. keyword-at k s t r h j before ∙ skip_main (start_in t) before s u v g.yields.gives (λ w. y (e ∙ w)) (z.skip ∙ f);
+        gives = λ before z. keyword-at k s t u h before ∙ skip_main (start_in t) before s u v g.yields.gives (λ w. y (e ∙ w)) (z.skip ∙ f);
         onward = onward-least 1 (onward_then o g.yields.onward) (omega arith);
         kinds = refl;
         tops = refl;
         named = λ ns z. absurd (no_dialects z);
         lays = rw (flat-one (declaration_branch (Declaration.main_skip g.yields.tree)), main_nodes g.yields.tree, g.yields.shown.starts)
-            (lays_parent g.yields.lays (st.stores x ts) o (omega arith) (omega arith));
+            (lays_parent g.yields.lays st o (omega arith) (omega arith));
       }

@@ -12,6 +12,8 @@ pub mod GrammarGroups
 pub mod AheadLaws
 pub mod MemberAhead
 pub mod WholeLaws
+pub mod KindTests
+pub mod Extents
 pub mod PlaceLaws
 pub mod TopPlaces
 pub mod Placing
@@ -24,4 +26,3 @@ pub mod BlockFilled
 pub mod WholeFilled
 pub mod ParseLaws
 pub mod StoreLaws
-pub mod Told

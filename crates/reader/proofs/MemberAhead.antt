@@ -7,6 +7,10 @@ use mathlib.Core.Path.{◌≡◌, refl, sym, ◌∙◌}
 use mathlib.Core.Bool.{Bool, true, false, ◌&&◌}
 use mathlib.Core.List.{List}
 use mathlib.Core.Option.{Option, none, some}
+use Rattle.std.specs.Prelude as P
+use Rattle.std.specs.Option.{is_some}
+use mir.Val.{bool_byte}
+use Rattle.lexer.specs.declared.Part.{Part}
 use Rattle.basics.specs.Basics.{if◌then◌otherwise◌, is_empty, picked}
 use Rattle.lexer.specs.Tokens.{Kind, Tokens}
 use Rattle.lexer.specs.Escapes.{decode_string}
@@ -14,7 +18,7 @@ use Rattle.notation.specs.Parser.{Answer, read, refused, Parser, and_then, ◌>>
 use Rattle.notation.specs.Members.{TokenMember, LocalMember, SkipMember, ExternalMember, local_fallback}
 use Rattle.notation.specs.Declarations.{names, parse_rule, parse_token_precedence, parse_named_node, token_member_by, parse_token_member, parse_local_member, parse_external_member, parse_skip_member}
 use Rattle.tokens.specs.Promise.{stream, at_of, string_of, text_in, mapped}
-use Rattle.tokens.specs.declared.Current.{Current}
+use Rattle.lexer.specs.declared.Token.{Token}
 use Rattle.tokens.proofs.Stream.{at-of, string-of}
 use Rattle.reader.specs.Places.{place_in}
 use Rattle.reader.specs.Blocks.{MemberOf, member_of, kind_of, kinds_of, Free, block_count}
@@ -163,10 +167,36 @@ ahead_in b free ts = in_by b free (at_in (token_of ts)) (string_in (token_of ts)
 
 -- ------------------------------------------------------------------ the tests of the code
 
-module _ (b : Block) (free : Bool) (s : List ℕ) (t : Current) where
+abbrev PartOption : Type 0
+PartOption = P.Option Part
+
+-- a part has a text, or there is none
+module _ (s : List ℕ) (o : PartOption) where
+  pub none_text : is_some o ≡ false → text_in s o ≡ none
+  none_text e = go o e
+    where
+      go : (o : PartOption) → is_some o ≡ false → text_in s o ≡ none
+      go P.None e = refl
+      go (P.Some a) e = absurd (let z : ◌≡◌ {A = ℕ} 0 1 = cc in omega arith)
+
+  -- a string is a literal
+  pub some_text : (at : Option (List ℕ)) → is_some o ≡ true → token_kind at (mapped decode_string (text_in s o)) ≡ 11
+  some_text at e = go o e
+    where
+      go : (o : PartOption) → is_some o ≡ true → token_kind at (mapped decode_string (text_in s o)) ≡ 11
+      go (P.Some a) e = refl
+      go P.None e = absurd (let z : ◌≡◌ {A = ℕ} 0 1 = cc in omega arith)
+
+module _ (b : Block) (free : Bool) (s : List ℕ) (t : Token) where
   pub group_is : (c : Block) (k : ℕ) {p : ℕ} → b ≡ c → member_kind_by c free (text_in s (at_of t)) (mapped decode_string (text_in s (string_of t))) ≡ k → p ≡ place_in (kinds_of c) k → p ≡ place_in (kinds_of b) (member_ahead b free (stream s t))
   unfolding member_ahead
   group_is c k e f g = g ∙ sym (rw (e, at-of s t, string-of s t, f))
 
   pub group_in : {p : ℕ} → p ≡ place_in (kinds_of b) (member_ahead b free (stream s t)) → p < block_count
   group_in e = let h = ahead_in b free (stream s t) in omega arith
+
+  -- external tokens: conflicts stand behind the tokens
+  pub conflict_place : b ≡ B.ExternalTokens → (r : Bool) → says "conflict" (text_in s (at_of t)) ≡ r → bool_byte r ≡ place_in (kinds_of b) (member_ahead b free (stream s t))
+  unfolding place_in
+  conflict_place e true q = group_is B.ExternalTokens 17 e (rw q) refl
+  conflict_place e false q = group_is B.ExternalTokens 13 e (rw q) refl

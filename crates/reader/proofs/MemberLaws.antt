@@ -9,8 +9,9 @@ use mathlib.Core.List.{List, [], ◌∷◌, ◌++◌, append-nil}
 use lib.ListN.{length}
 use Rattle.basics.proofs.Lists.{front-none}
 use Rattle.basics.specs.Basics.{letters, is_empty, picked}
-use Rattle.error.specs.declared.Cause.{Cause}
+use Rattle.std.specs.Prelude.{Option, Some, None, Ok, Err}
 use Rattle.error.specs.Promise.{cause_number}
+use Rattle.error.specs.declared.Stop.{Stop}
 use Rattle.lexer.specs.Tokens.{Tokens}
 use Rattle.lexer.specs.Promise.{part_of, is_plain}
 use Rattle.lexer.specs.Escapes.{decode_string}
@@ -20,25 +21,20 @@ use Rattle.tree.specs.Syntax.{Identifier}
 use Rattle.notation.specs.Parser.{Answer, read, refused, and_then, ◌>>=◌, pure, choose, kind_of as kind_at, kind, at_in, says, eat_at}
 use Rattle.notation.specs.Members.{TokenMember, LocalMember, SkipMember, ExternalMember, local_fallback}
 use Rattle.notation.specs.Declarations.{parse_rule, names, parse_token_precedence, parse_token_conflict, parse_literal, parse_named_node, token_member_by, parse_token_member, parse_local_member, parse_external_member, parse_skip_member}
-use Rattle.tokens.specs.Promise.{stream, at_of, string_of, Says}
-use Rattle.parser.specs.Storing.{Lent, lent, Stores, flat, nodes_of}
-use Rattle.parser.specs.Steps.{Onward, Parses, Lists}
+use Rattle.tokens.specs.Promise.{stream, at_of, string_of, Says, EatsAt}
+use Rattle.parser.specs.Storing.{Lent, Stores, flat, nodes_of}
+use Rattle.parser.specs.Steps.{Onward, Gives, Lists}
 use Rattle.parser.specs.Shapes.{IsToken}
-use Rattle.tokens.specs.declared.Current.{Current}
-use Rattle.tokens.specs.declared.Current.TheVariants.{Token, End}
-use Rattle.tokens.specs.declared.Part.{Part}
-use Rattle.tokens.specs.declared.Part.TheVariants.{From, Nothing}
-use Rattle.parser.specs.declared.props.Parsed.{Parsed}
-use Rattle.parser.specs.declared.props.Parsed.TheVariants as P
+use Rattle.lexer.specs.declared.Token.{Token}
+use Rattle.lexer.specs.declared.Token.TheVariants.{Of, Eof}
+use Rattle.lexer.specs.declared.Part.{Part}
 use Rattle.tokens.proofs.Stream.{at-of, string-of}
 use Rattle.parser.proofs.Onward.{onward_then, onward-least}
 use Rattle.parser.proofs.Lists.{flat-none, flat-more, lays-between}
-use Rattle.reader.specs.Blocks.{MemberOf, member_of, kind_of, branches_of, name_branches, Free, one_of, Joins, JoinsTo}
+use Rattle.reader.specs.Blocks.{MemberOf, member_of, kind_of, branches_of, name_branches, Free, Joins}
 use Rattle.reader.specs.declared.blocks.Block.{Block}
 use Rattle.reader.specs.declared.blocks.Block.TheVariants as B
 use Rattle.reader.specs.declared.blocks.Block.TheVariants.{ExternalTokens}
-use Rattle.reader.specs.declared.blocks.Joined.{Joined}
-use Rattle.reader.specs.declared.blocks.Joined.TheVariants.{Done, Refused}
 
 -- ------------------------------------------------------------------ nodes of branches
 
@@ -60,12 +56,13 @@ module _ (k : ℕ) where
 
 -- ------------------------------------------------------------------ one member
 
-module _ (b : Block) (free : Bool) {A : Type 0} (D : Answer ℕ A) (f : A → Branch) (make : A → MemberOf b) (k : ℕ) (s : List ℕ) (t u : Current) (a : Lent) (ws ts : List ℕ)
+module _ (b : Block) (free : Bool) {A : Type 0} (D : Answer ℕ A) (f : A → Branch) (make : A → MemberOf b) (k : ℕ) (s : List ℕ) (t u : Token) (a c : Lent)
     (reads : (before : List (MemberOf b)) → Free b before free → member_of b before (stream s t) ≡ and_then D (λ x. pure (make x)))
     (kinds : (x : A) → kind_of b (make x) ≡ k) (branches : (x : A) → branches_of b (make x) ≡ f x ∷ []) (o : Onward s t u 0) where
-  joined_by : (r : Parsed) → Parses D (nodes_of f) s u a ws ts r → JoinsTo b free s t a ws ts (one_of k r)
+  -- what was read from the token u on is a member from the token t on
+  pub joined : {v : Token} → Gives D (nodes_of f) s u a v c → Joins b free s t a v c 1 k
   unfolding and_then pure
-  joined_by (P.Done v n x) g =
+  joined g =
       let w = o.ahead in
       record {
         value = make g.value;
@@ -75,21 +72,23 @@ module _ (b : Block) (free : Bool) {A : Type 0} (D : Answer ℕ A) (f : A → Br
         counted = rw (branches g.value);
         lays = rw (branches g.value, flat-one (f g.value)) (lays-between 0 g.lays (omega arith) (omega arith) (omega arith));
       }
-  joined_by (P.Refused c p) g = λ before h. reads before h ∙ rw g
 
-  -- what was read from the token u on is a member from the token t on
-  pub joined : {j : Joined} (r : Parsed) → j ≡ one_of k r → Parses D (nodes_of f) s u a ws ts r → JoinsTo b free s t a ws ts j
-  joined r q g = rw q (joined_by r g)
+-- a refusal of what it is made of is one of the member
+module _ (b : Block) (free : Bool) {A : Type 0} (D : Answer ℕ A) (make : A → MemberOf b) (s : List ℕ) (t : Token)
+    (reads : (before : List (MemberOf b)) → Free b before free → member_of b before (stream s t) ≡ and_then D (λ x. pure (make x))) where
+  pub joined_not : {n p : ℕ} → D ≡ refused n p → (before : List (MemberOf b)) → Free b before free → member_of b before (stream s t) ≡ refused n p
+  unfolding and_then
+  joined_not g before h = reads before h ∙ rw g
 
 -- ------------------------------------------------------------------ a word after an `@`
 
-module _ (w : Quoted) (s : List ℕ) (t : Current) {part : Part} {r : Bool} (q : part ≡ at_of t) (h : Says s part (letters w) r) (plain : is_plain (letters w) ≡ true) where
+module _ (w : Quoted) (s : List ℕ) (t : Token) {part : Option Part} {r : Bool} (q : part ≡ at_of t) (h : Says s part (letters w) r) (plain : is_plain (letters w) ≡ true) where
   pub at-says : says w (at_in (kind_at (stream s t))) ≡ r
   at-says = rw (at-of s t, ← q) (h.said w refl plain)
 
-pub says-token : (w : Quoted) (s : List ℕ) (t : Current) → says w (at_in (kind_at (stream s t))) ≡ true → IsToken t
-says-token w s (Token k start end) e = tt
-says-token w s (End p) e = let h = rw (at-of s (End p)) at e in absurd (let z : ◌≡◌ {A = ℕ} 0 1 = cc in omega arith)
+pub says-token : (w : Quoted) (s : List ℕ) (t : Token) → says w (at_in (kind_at (stream s t))) ≡ true → IsToken t
+says-token w s (Of k start end) e = tt
+says-token w s (Eof p) e = let h = rw (at-of s (Eof p)) at e in absurd (let z : ◌≡◌ {A = ℕ} 0 1 = cc in omega arith)
 
 -- ------------------------------------------------------------------ in a scoped skip
 
@@ -131,8 +130,8 @@ module _ (before : List (ExternalMember ℕ)) (ts : Tokens ℕ) where
   specializer_token = refl
 
 -- a list of conflicts is one member with a branch for each name
-pub joined-names : {free : Bool} {s : List ℕ} {t u v : Current} {a : Lent} {n x count : ℕ} {ws ts : List ℕ} → eat_at "conflict" (stream s t) ≡ read true (stream s u) → Onward s t u 0
-    → Lists (names (stream s u)) (nodes_of (name_branch 17)) s u 2 a v (lent n ws x ts) count → Joins ExternalTokens free s t a v (lent n ws x ts) count 17
+pub joined-names : {free : Bool} {s : List ℕ} {t u v : Token} {a c : Lent} {count : ℕ} → eat_at "conflict" (stream s t) ≡ read true (stream s u) → Onward s t u 0
+    → Lists (names (stream s u)) (nodes_of (name_branch 17)) s u 2 a v c count → Joins ExternalTokens free s t a v c count 17
 unfolding and_then pure
 joined-names {s = s} {t} e o l =
     let w = o.ahead in
@@ -147,13 +146,13 @@ joined-names {s = s} {t} e o l =
 
 -- ------------------------------------------------------------------ in `@tokens`
 
-module _ (before : List (TokenMember ℕ)) (s : List ℕ) (t : Current) where
-  pub token-literal : {part : Part} {a e : ℕ} → part ≡ string_of t → part ≡ From a e
-      → parse_token_member before (stream s t) ≡ and_then (parse_literal (decode_string (part_of s a e)) (stream s t)) (λ x. pure (TokenMember.literal x))
+module _ (before : List (TokenMember ℕ)) (s : List ℕ) (t : Token) where
+  pub token-literal : {part : Option Part} {a : Part} → part ≡ string_of t → part ≡ Some a
+      → parse_token_member before (stream s t) ≡ and_then (parse_literal (decode_string (part_of s a)) (stream s t)) (λ x. pure (TokenMember.literal x))
   unfolding parse_token_member token_member_by kind ◌>>=◌ and_then
   token-literal q i = rw (parse_token_member, string-of s t, sym q ∙ i)
 
-  module _ {part : Part} (q : part ≡ string_of t) (i : part ≡ Nothing) where
+  module _ {part : Option Part} (q : part ≡ string_of t) (i : part ≡ None) where
     pub token-precedence : says "precedence" (at_in (kind_at (stream s t))) ≡ true
         → parse_token_member before (stream s t) ≡ and_then (parse_token_precedence (stream s t)) (λ x. pure (TokenMember.precedence x))
     unfolding parse_token_member token_member_by kind ◌>>=◌ and_then
@@ -218,11 +217,11 @@ some-before B.ExternalTokens free = record { members = []; is = tt }
 some-before B.Specializer free = record { members = []; is = tt }
 some-before B.Skip free = record { members = []; is = tt }
 
-module _ (b : Block) (free : Bool) (s : List ℕ) (t : Current) where
-  -- by its variant
-  module _ (a : Lent) (ws ts : List ℕ) (j : Joined) (h : JoinsTo b free s t a ws ts j) where
-    pub joined_at : {u : Current} {n x count k : ℕ} → j ≡ Done u n x count k → Joins b free s t a u (lent n ws x ts) count k
-    joined_at q = rw q at h
+-- ------------------------------------------------------------------ a word that is not there
 
-    pub joined_not : {c : Cause} {p : ℕ} → j ≡ Refused c p → (before : List (MemberOf b)) → Free b before free → member_of b before (stream s t) ≡ refused (cause_number c) p
-    joined_not q = rw q at h
+module _ (w : Quoted) (s : List ℕ) (t : Token) (plain : is_plain (letters w) ≡ true) where
+  pub eaten_no : EatsAt s t (letters w) (Ok None) → eat_at w (stream s t) ≡ read false (stream s t)
+  eaten_no h = h.eats w refl plain
+
+  pub eaten_not : {e : Stop} → EatsAt s t (letters w) (Err e) → eat_at w (stream s t) ≡ refused (cause_number e.cause) e.place
+  eaten_not h = h.eats w refl plain

@@ -1,17 +1,15 @@
 -- The whole of a grammar: how large its tree is, what its definition gives, and what is known once all is measured.
 -- Assumes nothing.
-use Prim.Native.Nat.{ℕ, zero, suc, ◌+◌, ◌*◌, ◌≤◌, ◌<◌, ◌^◌}
+use Prim.Native.Nat.{ℕ, ◌+◌, ◌*◌, ◌≤◌, ◌<◌, ◌^◌}
 use native.Mathlib.Omega.{arith}
 use mathlib.Core.Path.{◌≡◌, refl, ap, sym, ◌∙◌}
 use mathlib.Core.Bool.{true, false, not}
 use mathlib.Core.List.{List, [], ◌∷◌, ◌++◌}
 use borrow.Author.Tests.{not-true, not-false}
-use lib.ListN.{length, length-append, get_or}
-use Rattle.basics.proofs.Lists.{front-none}
+use lib.ListN.{length, length-append}
+use Rattle.std.specs.Prelude.{Ok}
 use Rattle.basics.specs.Basics.{is_empty, picked}
 use Rattle.error.specs.Causes.{no_top, records_full, texts_full}
-use Rattle.error.specs.declared.Cause.{Cause}
-use Rattle.error.specs.Promise.{cause_number}
 use Rattle.lexer.specs.Tokens.{Tokens}
 use Rattle.lexer.specs.Promise.{tokens_at}
 use Rattle.tree.specs.Records.{Branch, Node, nodes, texts_of, words, records_from, records, texts}
@@ -22,23 +20,17 @@ use Rattle.notation.specs.Parser.{read, refused, and_then, ◌>>=◌, pure, choo
 use Rattle.notation.specs.Members.{Member, declared, detects}
 use Rattle.notation.specs.Declarations.{has_top, grammar_of, parse, parse_grammar}
 use Rattle.tokens.specs.Promise.{stream, start_in, arrival, Lies}
-use Rattle.parser.specs.Storing.{Lent, lent, node, flat, nodes_of}
-use Rattle.tokens.specs.declared.Current.{Current}
-use Rattle.tokens.specs.declared.Arrived.{Arrived}
-use Rattle.tokens.specs.declared.Arrived.TheVariants as A
-use Rattle.parser.specs.declared.props.Listed.{Listed}
-use Rattle.parser.specs.declared.props.Listed.TheVariants as L
+use Rattle.parser.specs.Storing.{lent, node, flat, nodes_of}
+use Rattle.lexer.specs.declared.Token.{Token}
 use Rattle.tokens.proofs.Stream.{start-of}
 use Rattle.parser.proofs.Onward.{placed_in}
-use Rattle.parser.proofs.Ready.{arrived-at, arrived_not, flat-length}
+use Rattle.parser.proofs.Ready.{flat-length}
 use Rattle.reader.specs.Groups.{all_of, groups_of}
 use Rattle.reader.specs.Directives.{member_kind, member_branches}
-use Rattle.reader.specs.Places.{Begins, Blank}
-use Rattle.reader.specs.Whole.{members, last_names, stored_kinds, HasNames, Names, NamesTo, Passes, PassesTo, Sizes, Known, First, Stopped, by-text, by-words, by_bytes, Reads, group_count}
+use Rattle.reader.specs.Places.{words_in, bytes_in, Begins, Blank}
+use Rattle.reader.specs.Whole.{members, last_names, stored_kinds, HasNames, Names, Passes, Sizes, Known, First, Stopped, by-text, by-words, by_bytes, group_count}
 use Rattle.reader.specs.declared.whole.Noted.{Noted}
-use Rattle.reader.specs.declared.whole.Passed.{Passed}
-use Rattle.reader.specs.declared.whole.Passed.TheVariants as P
-use Rattle.reader.specs.declared.whole.Whole.{Whole}
+use Rattle.reader.specs.declared.blocks.Extent.{Extent}
 use Rattle.reader.proofs.GroupSizes.{Weight, nodes-of, bytes_of, groups-next, groups_weigh}
 use Rattle.parser.proofs.Stored.{words-length}
 use Rattle.reader.proofs.GrammarGroups.{declared_kinds, top_one, grammar_children, grammar-nodes}
@@ -134,27 +126,17 @@ module _ (ts : Tokens ℕ) where
       unfolding parse_grammar parse ◌>>=◌ and_then here choose pure
       grammar-read g = rw (e, f, g)
 
--- ------------------------------------------------------------------ answers by their variants
-
-module _ (s : List ℕ) (t : Current) (ps qs ps₁ qs₁ ws ts vs us : List ℕ) (r : Passed) (h : PassesTo s t ps qs ps₁ qs₁ ws ts vs us r) where
-  pub passed-at : {u : Current} {n x count : ℕ} {noted : Noted} → r ≡ P.Done u n x count noted → Passes s t ps qs ps₁ qs₁ ws ts vs us u n x count noted
-  passed-at q = rw q at h
-
-  pub passed_not : {c : Cause} {p : ℕ} → r ≡ P.Refused c p → members (stream s t) ≡ refused (cause_number c) p
-  passed_not q = rw q at h
-
 -- ------------------------------------------------------------------ the first token
 
-module _ (s : List ℕ) (r : Arrived) (h : (arrive (tokens_at s 0) ≡ arrival s r) × Lies s 0 r) where
-  -- there is none
-  pub stopped-first : {c : Cause} {p : ℕ} (ws ts : List ℕ) → r ≡ A.Refused c p → Stopped s ws ts (cause_number c) p
-  stopped-first ws ts q = by-text (grammar_not (tokens_at s 0) (arrived_not s r h.0 q))
+-- there is none
+pub stopped-first : {s : List ℕ} {c p : ℕ} (ws ts : List ℕ) → (arrive (tokens_at s 0) ≡ refused c p) × Unit {0} → Stopped s ws ts c p
+stopped-first {s} ws ts h = by-text (grammar_not (tokens_at s 0) h.0)
 
-  -- it is arrived at, and lies in the text
-  pub first-is : {t : Current} → r ≡ A.At t → First s t
-  first-is q = record { arrives = arrived-at s r h.0 q; lies = rw q at h.1 }
+-- it is arrived at, and lies in the text
+pub first-is : {s : List ℕ} {t : Token} → (arrive (tokens_at s 0) ≡ arrival s (Ok t)) × Lies s 0 (Ok t) → First s t
+first-is h = record { arrives = h.0; lies = h.1 }
 
-module _ {s : List ℕ} {t : Current} (first : First s t) where
+module _ {s : List ℕ} {t : Token} (first : First s t) where
   -- all room is left
   pub first-begins : length s ≤ 0x10000 → {ps qs : List ℕ} → Blank group_count ps → Blank group_count qs → Begins group_count 0x1000000 s t ps qs
   first-begins z a b =
@@ -173,16 +155,10 @@ module _ {s : List ℕ} {t : Current} (first : First s t) where
 
   -- ------------------------------------------------------------------ all is measured
 
-  module _ {last : Current} {n x count : ℕ} {noted : Noted} {ns xs ns₁ xs₁ es fs gs hs : List ℕ} (g : Passes s t ns xs ns₁ xs₁ es fs gs hs last n x count noted) where
-    -- nothing was lent
-    pub no_words_yet : length es ≡ 0 → (ws : List ℕ) → gs ++ ws ≡ ws
-    no_words_yet e ws = front-none gs ws (g.fills.records.same ∙ e)
-
-    pub no_texts_yet : length fs ≡ 0 → (ts : List ℕ) → hs ++ ts ≡ ts
-    no_texts_yet e ts = front-none hs ts (g.fills.texts.same ∙ e)
-
+  module _ {last : Token} {n x count : ℕ} {noted : Noted} (zs zs₁ : List Extent) {es fs gs hs : List ℕ}
+      (g : Passes s t (words_in zs) (bytes_in zs) (words_in zs₁) (bytes_in zs₁) es fs gs hs last n x count noted) where
     -- the sizes of the groups
-    measured-sizes : Blank group_count ns → Blank group_count xs → Sizes g.found ns₁ xs₁
+    measured-sizes : Blank group_count (words_in zs) → Blank group_count (bytes_in zs) → Sizes g.found (words_in zs₁) (bytes_in zs₁)
     measured-sizes a b =
         record {
           words-all = g.fills.same_places ∙ a.all;
@@ -215,14 +191,6 @@ module _ {s : List ℕ} {t : Current} (first : First s t) where
         let c = g.lays.bound in
         let o = placed_in s last g.onward.lies in
         omega arith
-
-    -- the names of the last `@dialects`, which are read again
-    module _ (a : Lent) (ws ts : List ℕ) (l : Listed) (i : NamesTo s noted a ws ts l) where
-      pub named-done : {u : Current} {m y named : ℕ} → l ≡ L.Done u m y named → Names (last_names g.found) s a (lent m ws y ts) named
-      named-done {u} {m} {y} {named} e = let j : NamesTo s noted a ws ts (L.Done u m y named) = rw e at i in j (last_names g.found) g.noted.named
-
-      pub named_always : {c : Cause} {p : ℕ} → l ≡ L.Refused c p → ⊥
-      named_always e = rw e at i
 
     -- the tree, which is read where there is a top rule
     abbrev grammar_at : GrammarDeclaration ℕ
@@ -259,24 +227,20 @@ module _ {s : List ℕ} {t : Current} (first : First s t) where
           (omega arith, omega arith)
 
       module _ (has-top : not noted.top ≡ false) {ws ts : List ℕ} where
-        -- there is no room for the words, or for the bytes; words and bytes are as they were
-        module _ {vs us : List ℕ} (v : vs ≡ ws) (u : us ≡ ts) where
-          pub stopped-words : length vs < m + 7 → Stopped s ws ts records_full 0 × (vs ≡ ws) × (us ≡ ts)
-          stopped-words i =
-              let e = measured-words in
-              let k = ap length v in
-              (by-words (record { tree = grammar_at; rest = stream s last; gives = whole-read has-top; short = omega arith; cause-is = refl; place_is = refl }), v, u)
+        -- there is no room for the words, or for the bytes
+        pub stopped-words : length ws < m + 7 → Stopped s ws ts records_full 0
+        stopped-words i =
+            let e = measured-words in
+            by-words (record { tree = grammar_at; rest = stream s last; gives = whole-read has-top; short = omega arith; cause-is = refl; place_is = refl })
 
-          pub stopped-bytes : m + 7 ≤ length vs → length us < y → Stopped s ws ts texts_full 0 × (vs ≡ ws) × (us ≡ ts)
-          stopped-bytes i j =
-              let e = measured-words in
-              let f = measured-bytes in
-              let k = ap length v in
-              let l = ap length u in
-              (by_bytes (record { tree = grammar_at; rest = stream s last; gives = whole-read has-top; fits = omega arith; short = omega arith; cause-is = refl; place_is = refl }), v, u)
+        pub stopped-bytes : m + 7 ≤ length ws → length ts < y → Stopped s ws ts texts_full 0
+        stopped-bytes i j =
+            let e = measured-words in
+            let f = measured-bytes in
+            by_bytes (record { tree = grammar_at; rest = stream s last; gives = whole-read has-top; fits = omega arith; short = omega arith; cause-is = refl; place_is = refl })
 
         -- there is room for all
-        pub all_known : Blank group_count ns → Blank group_count xs → m + 7 ≤ length ws → y ≤ length ts → Known s t last noted (count + named) ns₁ xs₁ ws ts
+        pub all_known : Blank group_count (words_in zs) → Blank group_count (bytes_in zs) → m + 7 ≤ length ws → y ≤ length ts → Known s t noted (count + named) zs₁ ws ts
         all_known none-words none-bytes i j =
             let e = measured-words in
             let f = measured-bytes in
@@ -287,6 +251,7 @@ module _ {s : List ℕ} {t : Current} (first : First s t) where
             let q = grammar-words (start_in t) g.found in
             let r = d.few in
             record {
+              last = last;
               arrives = first.arrives;
               surveyed = record { members = g.found; gives = g.gives; onward = g.onward; bound = omega arith; space = g.lays.space };
               noted = g.noted;
@@ -297,21 +262,3 @@ module _ {s : List ℕ} {t : Current} (first : First s t) where
               words_fit = omega arith;
               bytes_fit = omega arith;
             }
-
--- in words and bytes that are the same
-pub reads_same : (s ws ts vs us qs bs : List ℕ) (r : Whole) → vs ≡ ws → us ≡ ts → Reads s vs us qs bs r → Reads s ws ts qs bs r
-reads_same s ws ts vs us qs bs r e f h = rw (e, f) at h
-
--- ------------------------------------------------------------------ no sizes yet
-
-abbrev Zeros : List ℕ → Type 0
-Zeros [] = Unit {0}
-Zeros (x ∷ xs) = (x ≡ 0) × Zeros xs
-
-zeros-at : (xs : List ℕ) → Zeros xs → (g : ℕ) → get_or xs g 0 ≡ 0
-zeros-at [] h g = refl
-zeros-at (x ∷ xs) h zero = h.0
-zeros-at (x ∷ xs) h (suc g) = zeros-at xs h.1 g
-
-pub blank : Blank group_count (0 ∷ 0 ∷ 0 ∷ 0 ∷ 0 ∷ 0 ∷ 0 ∷ 0 ∷ 0 ∷ 0 ∷ 0 ∷ 0 ∷ 0 ∷ [])
-blank = record { all = refl; none = zeros-at (0 ∷ 0 ∷ 0 ∷ 0 ∷ 0 ∷ 0 ∷ 0 ∷ 0 ∷ 0 ∷ 0 ∷ 0 ∷ 0 ∷ 0 ∷ []) (refl, (refl, (refl, (refl, (refl, (refl, (refl, (refl, (refl, (refl, (refl, (refl, (refl, tt))))))))))))) }

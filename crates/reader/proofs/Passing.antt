@@ -6,6 +6,7 @@ use mathlib.Core.Path.{◌≡◌, refl, ap, ◌∙◌}
 use mathlib.Core.Bool.{Bool, true, false, ◌||◌}
 use mathlib.Core.List.{List, []}
 use mathlib.Core.Option.{Option, none, some}
+use Rattle.std.specs.Prelude.{None}
 use lib.Dec.{eqb}
 use lib.ListN.{length, length-append}
 use Rattle.notation.proofs.Turns.{separate-nothing}
@@ -19,8 +20,8 @@ use Rattle.tokens.specs.Promise.{stream, LiesIn}
 use Rattle.parser.specs.Shapes.{IsToken}
 use Rattle.parser.specs.Storing.{lent, flat}
 use Rattle.parser.specs.Steps.{placed}
-use Rattle.tokens.specs.declared.Current.{Current}
-use Rattle.tokens.specs.declared.Current.TheVariants.{Token, End}
+use Rattle.lexer.specs.declared.Token.{Token}
+use Rattle.lexer.specs.declared.Token.TheVariants.{Of, Eof}
 use Rattle.notation.proofs.Turns.{loop-end}
 use Rattle.parser.proofs.Onward.{placed_in}
 use Rattle.parser.proofs.Lists.{Listing, listing_start, listing-turn, listing-more, listing-refused}
@@ -49,22 +50,22 @@ step = until_step (kind >>= λ k. pure (is_end k)) nothing parse_declaration
 -- ------------------------------------------------------------------ one turn
 
 module _ (s : List ℕ) (before : List (Member ℕ)) where
-  end_step : (t : Current) {p : ℕ} → t ≡ End p → step before (stream s t) ≡ read none (stream s t)
+  end_step : (t : Token) {p : ℕ} → t ≡ Eof p → step before (stream s t) ≡ read none (stream s t)
   unfolding until_step ◌>>=◌ and_then kind kind_of pure choose stream
   end_step t e = rw e
 
-  open_step : (t : Current) → IsToken t → step before (stream s t) ≡ and_then (parse_declaration before (stream s t)) (λ x. pure (some x))
+  open_step : (t : Token) → IsToken t → step before (stream s t) ≡ and_then (parse_declaration before (stream s t)) (λ x. pure (some x))
   unfolding until_step ◌>>=◌ and_then kind kind_of pure choose stream
-  open_step (Token k a e) i = rw (separate-nothing before (stream s (Token k a e)))
-  open_step (End p) i = absurd i
+  open_step (Of k a e) i = rw (separate-nothing before (stream s (Of k a e)))
+  open_step (Eof p) i = absurd i
 
-pub is-token : {t : Current} {k : Kind} {a e : ℕ} → t ≡ Token k a e → IsToken t
+pub is-token : {t : Token} {k : Kind} {a e : ℕ} → t ≡ Of k a e → IsToken t
 is-token q = rw q tt
 
 -- ------------------------------------------------------------------ the pass
 
 -- the declarations so far are read, noted and stored
-pub record Passing (s : List ℕ) (t₀ : Current) (ps qs ps₁ qs₁ ws ts vs us : List ℕ) (t : Current) (n x count : ℕ) (noted : Noted) : Type 0 where
+pub record Passing (s : List ℕ) (t₀ : Token) (ps qs ps₁ qs₁ ws ts vs us : List ℕ) (t : Token) (n x count : ℕ) (noted : Noted) : Type 0 where
   pub turns : ℕ
   pub listing : Listing step (λ m. flat nodes (chosen member_kind member_branches 0 m)) s t₀ 0 (lent 0 [] 0 []) t (lent n [] x []) turns
   pub counted : length (all_of member_kind member_branches 0 listing.items) ≡ count
@@ -72,15 +73,15 @@ pub record Passing (s : List ℕ) (t₀ : Current) (ps qs ps₁ qs₁ ws ts vs u
   pub few : count + placed s t₀ ≤ placed s t
   pub fills : Fills member_place member_branches group_count listing.items ps qs ps₁ qs₁ ws ts vs us
 
-pub passing_start : (s : List ℕ) (t : Current) (ps qs ws ts : List ℕ) → LiesIn s 0 t
-    → Passing s t ps qs ps qs ws ts ws ts t 0 0 0 (record { seen = record { tokens = false; context = false; precedence = false; skip = false }; top = false; delim = false; listed = false; last = t })
+pub passing_start : (s : List ℕ) (t : Token) (ps qs ws ts : List ℕ) → LiesIn s 0 t
+    → Passing s t ps qs ps qs ws ts ws ts t 0 0 0 (record { seen = record { tokens = false; context = false; precedence = false; skip = false }; top = false; delim = false; dialects = None })
 unfolding listing_start all_of
 passing_start s t ps qs ws ts l =
-    record { turns = 0; listing = listing_start _ _ s t 0 (lent 0 [] 0 []) l; counted = refl; is-noted = noted-start s t; few = omega arith; fills = fills-none member_place member_branches group_count ps qs ws ts }
+    record { turns = 0; listing = listing_start _ _ s t 0 (lent 0 [] 0 []) l; counted = refl; is-noted = noted-start s; few = omega arith; fills = fills-none member_place member_branches group_count ps qs ws ts }
 
-module _ {s : List ℕ} {t₀ : Current} {ps qs ps₁ qs₁ ws ts vs us : List ℕ} {t : Current} {n x count : ℕ} {noted : Noted}
+module _ {s : List ℕ} {t₀ : Token} {ps qs ps₁ qs₁ ws ts vs us : List ℕ} {t : Token} {n x count : ℕ} {noted : Noted}
     (p : Passing s t₀ ps qs ps₁ qs₁ ws ts vs us t n x count noted) where
-  pub passing_done : {q : ℕ} → t ≡ End q → Passes s t₀ ps qs ps₁ qs₁ ws ts vs us t n x count noted
+  pub passing_done : {q : ℕ} → t ≡ Eof q → Passes s t₀ ps qs ps₁ qs₁ ws ts vs us t n x count noted
   passing_done e =
       let l = p.listing in
       record {
@@ -123,7 +124,7 @@ module _ {s : List ℕ} {t₀ : Current} {ps qs ps₁ qs₁ ws ts vs us : List �
         let l = p.listing in
         listing-refused l (open_step s l.items t i ∙ rw (h l.items p.is-noted.seen))
 
-    module _ {ps₂ qs₂ vs₂ us₂ : List ℕ} {u : Current} {m y k : ℕ} {top : Bool} (b : Begins group_count 0x1000000 s t₀ ps qs) (j : Places noted.seen s t ps₁ qs₁ ps₂ qs₂ vs us vs₂ us₂ u m y k top) where
+    module _ {ps₂ qs₂ vs₂ us₂ : List ℕ} {u : Token} {m y k : ℕ} {top : Bool} (b : Begins group_count 0x1000000 s t₀ ps qs) (j : Places noted.seen s t ps₁ qs₁ ps₂ qs₂ vs us vs₂ us₂ u m y k top) where
       pub passing_more : {more : ℕ} {next : Noted} → more ≡ records_of k → next ≡ note_of noted t k top → Passing s t₀ ps qs ps₂ qs₂ ws ts vs₂ us₂ u (n + m) (x + y) (count + more) next
       unfolding and_then pure listing-turn listing-more
       passing_more {more} {next} e f =

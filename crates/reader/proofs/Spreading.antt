@@ -8,27 +8,22 @@ use mathlib.Core.Bool.{Bool, true, ◌&&◌, not}
 use mathlib.Core.List.{List, []}
 use lib.Dec.{eqb}
 use lib.ListN.{length, get_or, set}
-use Rattle.error.specs.declared.Cause.{Cause}
-use Rattle.error.specs.Promise.{cause_number}
+use Rattle.std.specs.Prelude.{Ok}
 use Rattle.tree.specs.Records.{Node, texts_of}
-use Rattle.notation.specs.Parser.{refused}
 use Rattle.notation.specs.Members.{TokenMember, LocalMember, SkipMember, ExternalMember}
 use Rattle.tokens.specs.Promise.{stream, LiesIn}
 use Rattle.parser.specs.Storing.{lent}
 use Rattle.parser.specs.Steps.{Onward, Ready, Opens}
-use Rattle.tokens.specs.declared.Current.{Current}
+use Rattle.lexer.specs.declared.Token.{Token}
 use Rattle.parser.specs.declared.props.Comma.{Comma}
-use Rattle.parser.specs.declared.props.Opened.{Opened}
 use Rattle.parser.specs.declared.props.Opened.TheVariants as O
 use Rattle.parser.proofs.Onward.{placed_in}
 use Rattle.parser.proofs.Lists.{listing_start, listing-turn, listing-more}
 use Rattle.reader.specs.Places.{place_in, Fills, Begins}
-use Rattle.reader.specs.Blocks.{MemberOf, member_of, comma_of, kind_of, branches_of, kinds_of, Free, Joins, place_of, block_count, Settles, SettlesTo, Spreads}
+use Rattle.reader.specs.Blocks.{MemberOf, comma_of, kind_of, branches_of, kinds_of, Joins, place_of, block_count, Settles, Spreads}
 use Rattle.reader.specs.Ahead.{member_ahead}
 use Rattle.reader.specs.declared.blocks.Block.{Block}
 use Rattle.reader.specs.declared.blocks.Block.TheVariants.{Tokens, LocalTokens, ExternalTokens, Specializer, Skip}
-use Rattle.reader.specs.declared.blocks.Joined.{Joined}
-use Rattle.reader.specs.declared.blocks.Joined.TheVariants.{Done, Refused}
 use Rattle.reader.proofs.GroupSizes.{all-nodes}
 use Rattle.reader.proofs.MemberLaws.{some-before}
 use Rattle.reader.proofs.Membering.{Membering, membering-start, membering-small, members-closed, member_onward, member_more}
@@ -40,14 +35,14 @@ use Rattle.reader.proofs.MemberAhead.{member_yields, ahead-some}
 -- ------------------------------------------------------------------ a member
 
 -- where a group goes on there is room
-pub begins_ready : {s : List ℕ} {t : Current} {ps qs : List ℕ} → Begins block_count 0x30000000 s t ps qs → (p : ℕ) → Ready s t (get_or ps p 0) (get_or qs p 0)
+pub begins_ready : {s : List ℕ} {t : Token} {ps qs : List ℕ} → Begins block_count 0x30000000 s t ps qs → (p : ℕ) {ws ts : List ℕ} → Ready s t (lent (get_or ps p 0) ws (get_or qs p 0) ts)
 begins_ready b p =
     let a = b.words-few p in
     let c = b.bytes-few p in
     let d = b.small in
     record { lies = b.lies; small = omega arith; room = omega arith; space = omega arith }
 
-module _ {b : Block} {free : Bool} {s : List ℕ} {t : Current} {n x : ℕ} {ws ts : List ℕ} {u : Current} {m y : ℕ} {vs us : List ℕ} {count kind : ℕ}
+module _ {b : Block} {free : Bool} {s : List ℕ} {t : Token} {n x : ℕ} {ws ts : List ℕ} {u : Token} {m y : ℕ} {vs us : List ℕ} {count kind : ℕ}
     (j : Joins b free s t (lent n ws x ts) u (lent m vs y us) count kind) where
   pub settled_on : (n ≤ m) × (x ≤ y)
   settled_on = let a = j.lays.stores.words-end in let b = j.lays.stores.texts-end in (omega arith, omega arith)
@@ -69,14 +64,6 @@ module _ {b : Block} {free : Bool} {s : List ℕ} {t : Current} {n x : ℕ} {ws 
         let e : x + (y - x) ≡ y = omega arith in
         record { joins = settled-measured; words-on = rw (settled-place, ← en, c) a; bytes_on = rw (settled-place, ← ex, e) d; stores = rw (settled-place, ← en, ← ex, c, e) j.lays.stores }
 
--- by its variant
-module _ (b : Block) (free : Bool) (s : List ℕ) (t : Current) (ps qs ps₁ qs₁ ws ts vs us : List ℕ) (r : Joined) (h : SettlesTo b free s t ps qs ps₁ qs₁ ws ts vs us r) where
-  pub settled_at : {u : Current} {n x count kind : ℕ} → r ≡ Done u n x count kind → Settles b free s t ps qs ps₁ qs₁ ws ts vs us u n x count kind
-  settled_at q = rw q at h
-
-  pub settled_not : {c : Cause} {p : ℕ} → r ≡ Refused c p → (before : List (MemberOf b)) → Free b before free → member_of b before (stream s t) ≡ refused (cause_number c) p
-  settled_not q = rw q at h
-
 -- each member has one of the groups
 place-few : (b : Block) (m : MemberOf b) → place_of b m < block_count
 unfolding place_in
@@ -97,15 +84,15 @@ place-few Skip (SkipMember.rule x) = omega arith
 -- ------------------------------------------------------------------ the pass
 
 -- the members so far are read and stored
-pub record Spreading (b : Block) (s : List ℕ) (t₀ : Current) (ps qs ps₁ qs₁ ws ts vs us : List ℕ) (t : Current) (n x count children : ℕ) (free : Bool) : Type 0 where
+pub record Spreading (b : Block) (s : List ℕ) (t₀ : Token) (ps qs ps₁ qs₁ ws ts vs us : List ℕ) (t : Token) (n x count children : ℕ) (free : Bool) : Type 0 where
   pub membering : Membering b s t₀ (lent 0 [] 0 []) t (lent n [] x []) count children free
   pub fills : Fills (place_of b) (branches_of b) block_count membering.listing.items ps qs ps₁ qs₁ ws ts vs us
 
-pub spreading_start : (b : Block) (s : List ℕ) (t : Current) (ps qs ws ts : List ℕ) → LiesIn s 0 t → Spreading b s t ps qs ps qs ws ts ws ts t 0 0 0 0 true
+pub spreading_start : (b : Block) (s : List ℕ) (t : Token) (ps qs ws ts : List ℕ) → LiesIn s 0 t → Spreading b s t ps qs ps qs ws ts ws ts t 0 0 0 0 true
 unfolding membering-start listing_start
 spreading_start b s t ps qs ws ts l = record { membering = membering-start b s t (lent 0 [] 0 []) l; fills = fills-none (place_of b) (branches_of b) block_count ps qs ws ts }
 
-module _ {b : Block} {s : List ℕ} {t₀ : Current} {ps qs ps₁ qs₁ ws ts vs us : List ℕ} {t : Current} {n x count children : ℕ} {free : Bool}
+module _ {b : Block} {s : List ℕ} {t₀ : Token} {ps qs ps₁ qs₁ ws ts vs us : List ℕ} {t : Token} {n x count children : ℕ} {free : Bool}
     (p : Spreading b s t₀ ps qs ps₁ qs₁ ws ts vs us t n x count children free) where
   pub spreading_small : length s ≤ 0x10000 → (count ≤ 0x200000) × (children ≤ 0x400000) × (n ≤ 0x100000) × (x ≤ 0x100000)
   spreading_small h =
@@ -119,7 +106,7 @@ module _ {b : Block} {s : List ℕ} {t₀ : Current} {ps qs ps₁ qs₁ ws ts vs
       (k.0, k.1, omega arith, omega arith)
 
   -- the places stay small
-  pub spreading_begins : {u : Current} → Begins block_count 0x28000000 s t₀ ps qs → LiesIn s 0 u → Begins block_count 0x30000000 s u ps₁ qs₁
+  pub spreading_begins : {u : Token} → Begins block_count 0x28000000 s t₀ ps qs → LiesIn s 0 u → Begins block_count 0x30000000 s u ps₁ qs₁
   spreading_begins g i =
       let l = p.membering.listing in
       let c = ap length (all-nodes (kind_of b) (branches_of b) 0 l.items) in
@@ -130,12 +117,12 @@ module _ {b : Block} {s : List ℕ} {t₀ : Current} {ps qs ps₁ qs₁ ws ts vs
       let k = g.small in
       begins-on (place_of b) (kind_of b) (branches_of b) p.fills (omega arith) (omega arith) g 0x30000000 (omega arith) i
 
-  module _ {k : Comma} (q : k ≡ comma_of b) {r : Opened} (o : Opens s t (code "}") k count r) where
-    pub spreading_closed : {u : Current} → r ≡ O.Closed u → Spreads b s t₀ ps qs ps₁ qs₁ ws ts vs us u n x children
+  module _ {k : Comma} (q : k ≡ comma_of b) where
+    pub spreading_closed : {u : Token} → Opens s t (code "}") k count (Ok (O.Closed u)) → Spreads b s t₀ ps qs ps₁ qs₁ ws ts vs us u n x children
     unfolding members-closed
-    spreading_closed e = record { gathers = members-closed p.membering q o e; fills = p.fills }
+    spreading_closed o = record { gathers = members-closed p.membering q o; fills = p.fills }
 
-    module _ {u : Current} (e : r ≡ O.Item u) {ps₂ qs₂ vs₂ us₂ : List ℕ} {v : Current} {i y more kind : ℕ} (g : Begins block_count 0x28000000 s t₀ ps qs) (j : Settles b free s u ps₁ qs₁ ps₂ qs₂ vs us vs₂ us₂ v i y more kind) where
+    module _ {u : Token} (o : Opens s t (code "}") k count (Ok (O.Item u))) {ps₂ qs₂ vs₂ us₂ : List ℕ} {v : Token} {i y more kind : ℕ} (g : Begins block_count 0x28000000 s t₀ ps qs) (j : Settles b free s u ps₁ qs₁ ps₂ qs₂ vs us vs₂ us₂ v i y more kind) where
       -- behind what is taken already
       abbrev behind : Joins b free s u (lent n [] x []) v (lent (n + i) [] (x + y) []) more kind
       behind =
@@ -150,7 +137,7 @@ module _ {b : Block} {s : List ℕ} {t₀ : Current} {ps qs ps₁ qs₁ ws ts vs
           }
 
       pub spreading_onward : Onward s t v 1
-      spreading_onward = member_onward p.membering q o e behind
+      spreading_onward = member_onward p.membering q o behind
 
       spreading_more : Spreading b s t₀ ps qs ps₂ qs₂ ws ts vs₂ us₂ v (n + i) (x + y) (count + 1) (children + more) (free && not (eqb kind 13))
       unfolding member_more listing-turn listing-more
@@ -159,7 +146,7 @@ module _ {b : Block} {s : List ℕ} {t₀ : Current} {ps qs ps₁ qs₁ ws ts vs
           let a₁ = g.words-all in
           let a₂ = g.bytes-all in
           record {
-            membering = member_more p.membering q o e behind;
+            membering = member_more p.membering q o behind;
             fills = fills-more (place_of b) (branches_of b) p.fills {m = j.joins.value} z (omega arith) (omega arith) j.stores j.words-on j.bytes_on;
           }
 

@@ -2,33 +2,29 @@
 -- Assumes nothing.
 use Prim.Native.Nat.{ℕ, ◌+◌, ◌*◌, ◌≤◌, ◌<◌, ◌^◌}
 use native.Mathlib.Omega.{arith}
-use mathlib.Core.Path.{◌≡◌, ap, sym, ◌∙◌}
+use mathlib.Core.Path.{◌≡◌, refl, ap, sym, ◌∙◌}
 use mathlib.Core.List.{List, [], ◌∷◌, ◌++◌}
 use lib.ListN.{length, get_or, set}
 use Rattle.characters.specs.Promise.{written}
 use Rattle.characters.proofs.Written.{written_in}
-use Rattle.lexer.specs.Tokens.{Tokens}
 use Rattle.lexer.specs.Promise.{tokens_at}
 use Rattle.tree.specs.Records.{Branch, Node, nodes, width, texts_of, words, records_from}
 use Rattle.tree.specs.Stored.{name_branch, flag, grammar_branch, grammar_words, grammar_texts}
 use Rattle.tree.specs.Syntax.{Identifier}
-use Rattle.error.specs.declared.Cause.{Cause}
-use Rattle.notation.specs.Parser.{Answer, read, refused}
+use Rattle.reader.specs.declared.blocks.Extent.{Extent}
 use Rattle.notation.specs.Members.{Member}
 use Rattle.notation.specs.Declarations.{grammar_of}
-use Rattle.parser.specs.Storing.{Lent, lent, Stores, StoresPlain, node, flat, nodes_of}
-use Rattle.tokens.specs.declared.Current.{Current}
-use Rattle.parser.specs.declared.props.Listed.{Listed}
-use Rattle.parser.specs.declared.props.Listed.TheVariants.{Done, Refused}
+use Rattle.parser.specs.Storing.{Lent, lent, Stores, node, flat, nodes_of}
+use Rattle.lexer.specs.declared.Token.{Token}
 use Rattle.parser.proofs.Onward.{placed_in, start_small}
 use Rattle.parser.proofs.Ready.{flat-length}
 use Rattle.tokens.specs.Promise.{stream, start_in, LiesIn}
 use Rattle.tokens.proofs.Stream.{start-of}
 use Rattle.parser.proofs.Stored.{words-length}
 use Rattle.reader.specs.Groups.{all_of}
-use Rattle.reader.specs.Places.{sum, lined_up, Fills, Begins}
+use Rattle.reader.specs.Places.{words_in, bytes_in, sum, lined_up, Fills, Begins}
 use Rattle.reader.specs.Directives.{member_kind, member_branches}
-use Rattle.reader.specs.Whole.{last_names, stored_kinds, member_place, HasNames, Names, NamesTo, NamedIs, Passes, Known, Read, group_count}
+use Rattle.reader.specs.Whole.{last_names, stored_kinds, member_place, HasNames, NamedIs, Names, Passes, Known, Read, group_count}
 use Rattle.basics.specs.Basics.{over}
 use Rattle.reader.specs.declared.whole.Noted.{Noted}
 use Rattle.reader.proofs.GroupSizes.{number, nodes-of, bytes_of, groups_weigh}
@@ -44,16 +40,25 @@ use Rattle.reader.proofs.ParseLaws.{words-of, texts-of, top_weighs, grammar-word
 at_front : (bs out : List ℕ) → length bs ≤ length out → written out 0 bs ≡ over bs out
 at_front bs out h = let e : 0 + length bs ≡ length bs = omega arith in written_in out 0 bs (omega arith) ∙ rw e
 
-module _ {s : List ℕ} {t last : Current} {noted : Noted} {count : ℕ} {ps qs ws ts : List ℕ} (z : length s ≤ 0x10000) (l : LiesIn s 0 t) (known : Known s t last noted count ps qs ws ts) where
+module _ {s : List ℕ} {t : Token} {noted : Noted} {count : ℕ} {zs : List Extent} {ws ts : List ℕ} (z : length s ≤ 0x10000) (l : LiesIn s 0 t) (known : Known s t noted count zs ws ts) where
+  abbrev ps : List ℕ
+  ps = words_in zs
+
+  abbrev qs : List ℕ
+  qs = bytes_in zs
+
   abbrev ms : List (Member ℕ)
   ms = known.surveyed.members
 
   pub known-names : HasNames s noted
   known-names = record { the = last_names ms; are = known.noted.named }
 
+  pub known-named : {a b : Lent} {m : ℕ} → ((ns : List (Identifier ℕ)) → NamedIs s noted.dialects ns → Names ns s a b m) → Names (last_names ms) s a b m
+  known-named h = h (last_names ms) known.noted.named
+
   known-bound : (length (flat nodes (all_of member_kind member_branches 0 ms)) ≤ 0x20000) × (length (texts_of (flat nodes (all_of member_kind member_branches 0 ms))) ≤ 0x30000)
   known-bound =
-      let p = placed_in s last known.surveyed.onward.lies in
+      let p = placed_in s known.last known.surveyed.onward.lies in
       let b = known.surveyed.bound in
       let c = known.surveyed.space in
       (omega arith, omega arith)
@@ -129,12 +134,9 @@ module _ {s : List ℕ} {t last : Current} {noted : Noted} {count : ℕ} {ps qs 
           let g = names.few in
           omega arith
 
-      module _ {u : Current} {n₂ y₂ count₂ : ℕ} {noted₂ : Noted} {ps₂ qs₂ vs₂ us₂ : List ℕ} (passes : Passes s t (set ps₁ 11 k) (set qs₁ 11 x) ps₂ qs₂ vs us vs₂ us₂ u n₂ y₂ count₂ noted₂) where
+      module _ {u : Token} {n₂ y₂ count₂ : ℕ} {noted₂ : Noted} {ps₂ qs₂ vs₂ us₂ : List ℕ} (passes : Passes s t (set ps₁ 11 k) (set qs₁ 11 x) ps₂ qs₂ vs us vs₂ us₂ u n₂ y₂ count₂ noted₂) where
         fills : Fills member_place member_branches 13 ms (set ps₁ 11 k) (set qs₁ 11 x) ps₂ qs₂ vs us vs₂ us₂
         fills = let q : passes.found ≡ ms = together passes.gives known.surveyed.gives in rw q at passes.fills
-
-        pub ends-all : (length ps₂ ≡ 13) × (length qs₂ ≡ 13)
-        ends-all = (fills.same_places ∙ pass_begins.words-all, fills.same_bytes ∙ pass_begins.bytes-all)
 
         words-end : get_or ps₂ 11 0 ≡ k + width * length (group_of ms 11)
         words-end = let a = place_eleven in_words ms ps known.sizes.words-all known.sizes.words_are e k in let b = fills.words-on 11 (omega arith) in omega arith
@@ -159,6 +161,10 @@ module _ {s : List ℕ} {t last : Current} {noted : Noted} {count : ℕ} {ps qs 
         abbrev own : List Node
         own = node 1 (start_in t) [] (flag noted.delim) 0 count ∷ []
 
+        own-textless : length (texts_of own) ≡ 0
+        unfolding texts_of
+        own-textless = refl
+
         -- how many branches the grammar's record has
         children : grammar_children ms ≡ count
         children = let a = top_weighs ms number in let b = known.counted in omega arith
@@ -172,9 +178,10 @@ module _ {s : List ℕ} {t last : Current} {noted : Noted} {count : ℕ} {ps qs 
         texts-are : grammar_texts (grammar_of (start_in t) ms) ≡ texts_of (stored_before ms 11 ++ naming ++ group_of ms 11 ++ own)
         texts-are = texts-of (grammar_of (start_in t) ms) ∙ ap texts_of whole-nodes
 
-        module _ {p v j : ℕ} {vs₃ : List ℕ} (pe : p ≡ start_in t) (ve : v ≡ flag noted.delim) (put : StoresPlain (node 1 p [] v 0 count) (get_or ps₂ 11 0) vs₂ j vs₃) where
-          stores-own : Stores own (lent (get_or ps₂ 11 0) vs₂ (get_or qs₂ 11 0) us₂) (lent j vs₃ (get_or qs₂ 11 0) us₂)
-          stores-own = rw (pe, ve) at (put.stores (get_or qs₂ 11 0) us₂)
+        module _ {p v j i : ℕ} {vs₃ us₃ : List ℕ} (pe : p ≡ start_in t) (ve : v ≡ flag noted.delim)
+            (put : Stores (node 1 p [] v 0 count ∷ []) (lent (get_or ps₂ 11 0) vs₂ (get_or qs₂ 11 0) us₂) (lent j vs₃ i us₃)) where
+          stores-own : Stores own (lent (get_or ps₂ 11 0) vs₂ (get_or qs₂ 11 0) us₂) (lent j vs₃ i us₃)
+          stores-own = rw (pe, ve) at put
 
           words_fit : width * length (stored_before ms 11 ++ naming ++ group_of ms 11 ++ own) ≤ length ws
           words_fit = let a = known.words_fit in let b = ap length words_are in let c = words-length 0 (stored_before ms 11 ++ naming ++ group_of ms 11 ++ own) in omega arith
@@ -192,7 +199,7 @@ module _ {s : List ℕ} {t last : Current} {noted : Noted} {count : ℕ} {ps qs 
               (place-behind in_words ms ps known.sizes.words-all known.sizes.words_are e k naming own)
               words_fit (put-words names.stores) fills.records (put-words stores-own)
 
-          bytes-written : us₂ ≡ written ts 0 (texts_of (stored_before ms 11 ++ naming ++ group_of ms 11 ++ own))
+          bytes-written : us₃ ≡ written ts 0 (texts_of (stored_before ms 11 ++ naming ++ group_of ms 11 ++ own))
           bytes-written =
               all-written in_bytes ms naming own bytes-at bytes-at names.stores.texts-end names.stores.texts-end bytes-end bytes-end (set qs₁ 11 x) (set qs₁ 11 x)
               (place-first in_bytes ms qs known.sizes.bytes-all known.sizes.bytes-are f x)
@@ -211,20 +218,22 @@ module _ {s : List ℕ} {t last : Current} {noted : Noted} {count : ℕ} {ps qs 
               let d = words-at in
               let g = grammar-words (start_in t) ms in
               let h = top_weighs ms nodes-of in
-              let i = ap length props-are in
+              let k = ap length props-are in
               omega arith
 
-          bytes-taken : get_or qs₂ 11 0 ≡ length (grammar_texts (grammar_of (start_in t) ms))
+          bytes-taken : i ≡ length (grammar_texts (grammar_of (start_in t) ms))
           bytes-taken =
+              let a = stores-own.texts-end in
+              let e = own-textless in
               let b = bytes-end in
               let c = names.stores.texts-end in
               let d = bytes-at in
               let g = grammar-bytes (start_in t) ms in
               let h = top_weighs ms bytes_of in
-              let i = ap (λ (l : List Node). length (texts_of l)) props-are in
+              let k = ap (λ (l : List Node). length (texts_of l)) props-are in
               omega arith
 
-          pub whole-read : Read s ws ts vs₃ us₂ j (get_or qs₂ 11 0)
+          pub whole-read : Read s ws ts vs₃ us₃ j i
           whole-read =
               let a = words-taken in
               let b = bytes-taken in
@@ -233,7 +242,7 @@ module _ {s : List ℕ} {t last : Current} {noted : Noted} {count : ℕ} {ps qs 
               let q = known.few in
               record {
                 tree = grammar_of (start_in t) ms;
-                rest = stream s last;
+                rest = stream s known.last;
                 gives = grammar-read (tokens_at s 0) known.arrives known.surveyed.gives (known.noted.top ∙ known.top) ∙ rw (start-of s t);
                 words_are = a;
                 bytes-are = b;
@@ -243,19 +252,3 @@ module _ {s : List ℕ} {t last : Current} {noted : Noted} {count : ℕ} {ps qs 
                 records = words-written ∙ ap (λ (l : List ℕ). written ws 0 l) (sym words_are) ∙ at_front (grammar_words (grammar_of (start_in t) ms)) ws c;
                 texts = bytes-written ∙ ap (λ (l : List ℕ). written ts 0 l) (sym texts-are) ∙ at_front (grammar_texts (grammar_of (start_in t) ms)) ts d;
               }
-
--- ------------------------------------------------------------------ answers by their variants
-
--- what is read is not refused
-pub never : {A B : Type 0} {D : Answer ℕ A} {a : A} {us : Tokens ℕ} {c p : ℕ} → D ≡ read a us → D ≡ refused c p → B
-never e f = absurd (apart (sym e ∙ f))
-  where
-    apart : {A : Type 0} {a : A} {us : Tokens ℕ} {c p : ℕ} → read a us ≡ refused c p → ⊥
-    apart q = let z : ◌≡◌ {A = ℕ} 0 1 = cc in omega arith
-
-module _ (s : List ℕ) (n : Noted) (a : Lent) (ws ts : List ℕ) (r : Listed) (h : NamesTo s n a ws ts r) where
-  pub named : {u : Current} {m x count : ℕ} → r ≡ Done u m x count → (ns : List (Identifier ℕ)) → NamedIs s n.listed n.last ns → Names ns s a (lent m ws x ts) count
-  named q = rw q at h
-
-  pub named_not : {c : Cause} {p : ℕ} → r ≡ Refused c p → ⊥
-  named_not q = rw q at h

@@ -5,15 +5,16 @@ use Prim.Native.String.{String as Quoted}
 use native.Mathlib.Omega.{arith}
 use mathlib.Core.Path.{◌≡◌, refl, ◌∙◌}
 use mathlib.Core.Bool.{Bool, true, false}
-use mathlib.Core.List.{List, [], ◌∷◌, ◌++◌, append-nil}
-use mathlib.Core.Option.{Option, none, some}
+use mathlib.Core.List.{List, [], ◌∷◌, append-nil}
+use mathlib.Core.Option as M
+use mathlib.Core.Option.{none, some}
+use Rattle.std.specs.Prelude.{Option, Some, None, Result, Ok, Err}
+use Rattle.std.specs.Option.{is_some}
+use Rattle.error.specs.declared.Stop.{Stop}
 use lib.Dec.{eqb}
 use lib.ListN.{length}
-use Rattle.basics.proofs.Lists.{front-none}
 use Rattle.basics.specs.Basics.{if◌then◌otherwise◌, letters, spells, picked}
 use Rattle.error.specs.Causes.{unexpected_token, top_without_name, second_tokens, second_precedence, second_context}
-use Rattle.error.specs.Promise.{cause_number}
-use Rattle.error.specs.declared.Cause.{Cause}
 use Rattle.lexer.specs.Tokens.{Tokens}
 use Rattle.lexer.specs.Promise.{part_of, is_plain}
 use Rattle.tree.specs.Records.{Node, nodes}
@@ -23,42 +24,40 @@ use Rattle.notation.specs.Parser.{Answer, read, refused, Parser, and_then, ◌>>
 use Rattle.notation.specs.Expressions.{parse_braced_expression, outermost}
 use Rattle.notation.specs.Members.{Member, declaration, dialects, external_prop, detect_delim}
 use Rattle.notation.specs.Declarations.{names, is_top, seen, top_by, parse_rule, parse_source, declares, parse_tokens, parse_local_tokens, parse_context_declaration, parse_external_token_set, parse_external_tokens, parse_external_specializer, parse_external_prop_source, parse_external_prop, external_by, parse_external_declaration, parse_precedence, parse_skip_declaration, parse_directive, declaration_by, parse_declaration}
-use Rattle.tokens.specs.Promise.{stream, start_in, end_in, name_of, at_of, text_in, arrival, LiesIn, Lies, Says}
+use Rattle.tokens.specs.Promise.{stream, start_in, end_in, name_of, at_of, text_in, LiesIn, Says}
 use Rattle.parser.specs.Storing.{Lent, lent, flat, nodes_of}
-use Rattle.parser.specs.Steps.{placed, Onward, Lays, Ready, Parses, Lists}
+use Rattle.parser.specs.Steps.{placed, Onward, Lays, Ready, Gives, Parses, Lists}
 use Rattle.parser.specs.Shapes.{IsToken}
-use Rattle.tokens.specs.declared.Current.{Current}
-use Rattle.tokens.specs.declared.Current.TheVariants.{Token, End}
-use Rattle.tokens.specs.declared.Arrived.{Arrived}
-use Rattle.tokens.specs.declared.Arrived.TheVariants.{At, Refused}
-use Rattle.tokens.specs.declared.Part.{Part}
-use Rattle.tokens.specs.declared.Part.TheVariants.{From, Nothing}
-use Rattle.parser.specs.declared.props.Parsed.{Parsed}
-use Rattle.parser.specs.declared.props.Parsed.TheVariants as P
+use Rattle.lexer.specs.declared.Token.{Token}
+use Rattle.lexer.specs.declared.Token.TheVariants.{Of, Eof}
+use Rattle.lexer.specs.declared.Part.{Part}
 use Rattle.tokens.proofs.Stream.{start-of, name-of, at-of}
 use Rattle.parser.proofs.Onward.{start_small, next-onward, onward_then, onward-least}
 use Rattle.parser.proofs.Lists.{flat-none, lays-none, lays-between}
-use Rattle.parser.proofs.Ready.{ready_step, arrived-at, arrived_not}
+use Rattle.parser.proofs.Ready.{ready_step}
 use Rattle.declarations.specs.Sources.{IdSource, from_source, from_branch}
-use Rattle.reader.specs.Directives.{past, top_at, local_at, prop_at, dialects_at, member_kind, member_branches, member_top, SeenIs, declared_of, Declares, DeclaresTo}
+use Rattle.reader.specs.Directives.{past, top_at, local_at, prop_at, dialects_at, member_kind, member_branches, member_top, SeenIs, Declares, DeclaresTo}
 use Rattle.reader.specs.declared.directives.Seen.{Seen}
 use Rattle.reader.specs.declared.directives.Declared.{Declared}
-use Rattle.reader.specs.declared.directives.Declared.TheVariants.{Done, Refused as Not}
 
 -- ------------------------------------------------------------------ one thing made of another
 
 module _ {A B : Type 0} (f : A → B) (g : A → List Node) (h : B → List Node) (same : (x : A) → h (f x) ≡ g x) (D : Answer ℕ A) (E : Answer ℕ B)
-    (e : E ≡ and_then D (λ x. pure (f x))) (s : List ℕ) (t : Current) (a : Lent) (ws ts : List ℕ) where
-  pub parses_as : (r : Parsed) → Parses D g s t a ws ts r → Parses E h s t a ws ts r
+    (e : E ≡ and_then D (λ x. pure (f x))) (s : List ℕ) (t : Token) (a c : Lent) where
+  pub parses_as : (r : Result Token Stop) → Parses D g s t a c r → Parses E h s t a c r
   unfolding and_then pure
-  parses_as (P.Done u n x) p = record { value = f p.value; gives = e ∙ rw p.gives; onward = p.onward; lays = rw (same p.value) p.lays }
-  parses_as (P.Refused c q) p = e ∙ rw p
+  parses_as (Ok u) p = record { value = f p.value; gives = e ∙ rw p.gives; onward = p.onward; lays = rw (same p.value) p.lays }
+  parses_as (Err d) p = e ∙ rw p
 
 -- ------------------------------------------------------------------ after a token
 
 -- a token's start lies in the text
-pub start-within : {s : List ℕ} {t : Current} {n x p : ℕ} → Ready s t n x → p ≡ start_in t → p ≤ length s
+pub start-within : {s : List ℕ} {t : Token} {a : Lent} {p : ℕ} → Ready s t a → p ≡ start_in t → p ≤ length s
 start-within {s} {t} r e = rw e (start_small s t r.lies)
+
+-- where nothing is lent, what is taken stays small
+pub ready-first : {s : List ℕ} {t : Token} {a : Lent} → Ready s t a → Ready s t (lent 0 [] 0 [])
+ready-first r = let c = r.small in record { lies = r.lies; small = r.small; room = omega arith; space = omega arith }
 
 module _ {A : Type 0} (m : Parser ℕ A) (ts : Tokens ℕ) where
   past_halt : {c p : ℕ} → next ts ≡ refused c p → past m ts ≡ refused c p
@@ -78,48 +77,56 @@ module _ {A : Type 0} (m : Parser ℕ A) (ts : Tokens ℕ) where
       go (read x us) = refl
       go (refused c p) = refl
 
-module _ (s : List ℕ) (t : Current) (r : Arrived) (h : (next (stream s t) ≡ arrival s r) × Lies s (end_in t) r) where
-  pub past_not : {A : Type 0} (m : Parser ℕ A) {c : Cause} {p : ℕ} → r ≡ Refused c p → past m (stream s t) ≡ refused (cause_number c) p
-  past_not m q = past_halt m (stream s t) (arrived_not s r h.0 q)
+module _ (s : List ℕ) (t : Token) where
+  pub past_not : {A : Type 0} (m : Parser ℕ A) {c p : ℕ} → next (stream s t) ≡ refused c p → past m (stream s t) ≡ refused c p
+  past_not m e = past_halt m (stream s t) e
 
-  module _ {u : Current} (q : r ≡ At u) where
+  module _ (u : Token) (h : (next (stream s t) ≡ read tt (stream s u)) × LiesIn s (end_in t) u) where
     pub past-at : {A : Type 0} (m : Parser ℕ A) → past m (stream s t) ≡ m (stream s u)
-    past-at m = past-read m (stream s t) (arrived-at s r h.0 q)
+    past-at m = past-read m (stream s t) h.0
 
     module _ (i : IsToken t) (l : LiesIn s 0 t) where
       pub past-onward : Onward s t u 1
-      past-onward = next-onward s t u r i l h q
+      past-onward = next-onward s t i l h
 
-      pub past_ready : {n x : ℕ} → Ready s t n x → Ready s u n x
+      pub past_ready : {a : Lent} → Ready s t a → Ready s u a
       past_ready y = ready_step y past-onward
 
-      pub past-lays : {v : Current} {xs : List Node} {a b : Lent} → Lays s u v 0 xs a b → Lays s t v 0 xs a b
+      pub past-lays : {v : Token} {xs : List Node} {a b : Lent} → Lays s u v 0 xs a b → Lays s t v 0 xs a b
       past-lays y = let o = past-onward.ahead in lays-between 0 y (omega arith) (omega arith) (omega arith)
 
-      pub parses_past : {A : Type 0} (m : Parser ℕ A) (g : A → List Node) (a : Lent) (ws ts : List ℕ) (p : Parsed) → Parses (m (stream s u)) g s u a ws ts p → Parses (past m (stream s t)) g s t a ws ts p
-      parses_past m g a ws ts (P.Done v n x) f =
+      pub parses_past : {A : Type 0} (m : Parser ℕ A) (g : A → List Node) (a c : Lent) (p : Result Token Stop) → Parses (m (stream s u)) g s u a c p → Parses (past m (stream s t)) g s t a c p
+      parses_past m g a c (Ok v) f =
           record {
             value = f.value;
             gives = past-at m ∙ f.gives;
             onward = onward-least 1 (onward_then past-onward f.onward) (omega arith);
             lays = past-lays f.lays;
           }
-      parses_past m g a ws ts (P.Refused c p) f = past-at m ∙ f
+      parses_past m g a c (Err e) f = past-at m ∙ f
 
 -- ------------------------------------------------------------------ top rules
 
-module _ (s : List ℕ) (u : Current) where
+module _ (s : List ℕ) (u : Token) where
   top-by : top_at (stream s u) ≡ top_by (text_in s (name_of u)) (stream s u)
   unfolding ◌>>=◌ and_then kind
   top-by = rw (name-of s u)
 
-  pub top-nameless : {p : ℕ} → name_of u ≡ Nothing → p ≡ start_in u → top_at (stream s u) ≡ refused top_without_name p
+  pub top-nameless : {p : ℕ} → is_some (name_of u) ≡ false → p ≡ start_in u → top_at (stream s u) ≡ refused top_without_name p
   unfolding top_by refuse_here
-  top-nameless e q = top-by ∙ rw (e, top_by, start-of s u, q)
+  top-nameless {p} e q = go (name_of u) refl e
+    where
+      go : (o : Option Part) → name_of u ≡ o → is_some o ≡ false → top_at (stream s u) ≡ refused top_without_name p
+      go None f e = top-by ∙ rw (f, top_by, start-of s u, q)
+      go (Some a) f e = absurd (let z : ◌≡◌ {A = ℕ} 0 1 = cc in omega arith)
 
-  pub top-named : {a e : ℕ} → name_of u ≡ From a e → top_at (stream s u) ≡ and_then (parse_rule (stream s u)) (λ r. pure (Declaration.top_rule r))
+  pub top-named : is_some (name_of u) ≡ true → top_at (stream s u) ≡ and_then (parse_rule (stream s u)) (λ r. pure (Declaration.top_rule r))
   unfolding top_by ◌>>=◌
-  top-named e = top-by ∙ rw (e, top_by)
+  top-named e = go (name_of u) refl e
+    where
+      go : (o : Option Part) → name_of u ≡ o → is_some o ≡ true → top_at (stream s u) ≡ and_then (parse_rule (stream s u)) (λ r. pure (Declaration.top_rule r))
+      go (Some a) f e = top-by ∙ rw (f, top_by)
+      go None f e = absurd (let z : ◌≡◌ {A = ℕ} 0 1 = cc in omega arith)
 
 pub top-nodes : (r : RuleDeclaration ℕ) → nodes (declaration_branch (Declaration.top_rule r)) ≡ nodes (rule_branch 2 r)
 unfolding declaration_branch
@@ -202,11 +209,11 @@ rule-plain x = plain-declaration (Declaration.rule x) refl refl
 
 -- what is read is made a member of a kind
 module _ {A : Type 0} (make : A → Member ℕ) (D : Answer ℕ A) (E : List (Member ℕ) → Answer ℕ (Member ℕ)) (g : A → List Node) (kind : ℕ) (top : Bool)
-    (k : Seen) (s : List ℕ) (t : Current) (a : Lent) (ws ts : List ℕ) (is : (before : List (Member ℕ)) → SeenIs k before → E before ≡ and_then D (λ x. pure (make x)))
+    (k : Seen) (s : List ℕ) (t : Token) (a c : Lent) (is : (before : List (Member ℕ)) → SeenIs k before → E before ≡ and_then D (λ x. pure (make x)))
     (plain : (x : A) (us : Tokens ℕ) → D ≡ read x us → Plain (make x) kind top (g x)) where
-  declares-of : (p : Parsed) → Parses D g s t a ws ts p → DeclaresTo E k s t a ws ts (declared_of kind top p)
+  pub declares-by : {u : Token} → Gives D g s t a u c → Declares E k s t a u c kind top
   unfolding and_then pure
-  declares-of (P.Done u n x) f =
+  declares-by {u} f =
       let y = plain f.value (stream s u) f.gives in
       record {
         value = make f.value;
@@ -217,16 +224,19 @@ module _ {A : Type 0} (make : A → Member ℕ) (D : Answer ℕ A) (E : List (Me
         named = λ ns q. absurd (y.other ns q);
         lays = rw y.stored f.lays;
       }
-  declares-of (P.Refused c p) f = λ before q. is before q ∙ rw f
 
-  pub declares-by : (p : Parsed) → Parses D g s t a ws ts p → (r : Declared) → r ≡ declared_of kind top p → DeclaresTo E k s t a ws ts r
-  declares-by p f r e = rw e (declares-of p f)
+-- a refusal of what it is made of is one of the member
+module _ {A : Type 0} (make : A → Member ℕ) (D : Answer ℕ A) (E : List (Member ℕ) → Answer ℕ (Member ℕ)) (k : Seen)
+    (is : (before : List (Member ℕ)) → SeenIs k before → E before ≡ and_then D (λ x. pure (make x))) where
+  pub declares_not : {n p : ℕ} → D ≡ refused n p → (before : List (Member ℕ)) → SeenIs k before → E before ≡ refused n p
+  unfolding and_then
+  declares_not f before q = is before q ∙ rw f
 
 -- the same by another definition
-module _ (D E : List (Member ℕ) → Answer ℕ (Member ℕ)) (k : Seen) (s : List ℕ) (t : Current) (a : Lent) (ws ts : List ℕ)
+module _ (D E : List (Member ℕ) → Answer ℕ (Member ℕ)) (k : Seen) (s : List ℕ) (t : Token) (a c : Lent)
     (is : (before : List (Member ℕ)) → SeenIs k before → E before ≡ D before) where
-  pub declares_as : (r : Declared) → DeclaresTo D k s t a ws ts r → DeclaresTo E k s t a ws ts r
-  declares_as (Done u n x kind top) f =
+  pub declares_as : (r : Result Declared Stop) → DeclaresTo D k s t a c r → DeclaresTo E k s t a c r
+  declares_as (Ok d) f =
       record {
         value = f.value;
         gives = λ before q. is before q ∙ f.gives before q;
@@ -236,36 +246,36 @@ module _ (D E : List (Member ℕ) → Answer ℕ (Member ℕ)) (k : Seen) (s : L
         named = f.named;
         lays = f.lays;
       }
-  declares_as (Not c p) f = λ before q. is before q ∙ f before q
+  declares_as (Err e) f = λ before q. is before q ∙ f before q
 
 -- ------------------------------------------------------------------ contexts, delimiters, dialects
 
-module _ (k : Seen) (s : List ℕ) (t : Current) (r : Arrived) (h : (next (stream s t) ≡ arrival s r) × Lies s (end_in t) r) {u : Current} (q : r ≡ At u) where
+module _ (k : Seen) (s : List ℕ) (t u : Token) (h : (next (stream s t) ≡ read tt (stream s u)) × LiesIn s (end_in t) u) where
   pub context-second : {p : ℕ} (before : List (Member ℕ)) → SeenIs k before → k.context ≡ true → p ≡ start_in t
       → past (declares (parse_context_declaration (start_in t) before)) (stream s t) ≡ refused second_context p
-  context-second before w e z = past-at s t r h q _ ∙ context-again (start_in t) before (stream s u) (w.context ∙ e) ∙ rw z
+  context-second before w e z = past-at s t u h _ ∙ context-again (start_in t) before (stream s u) (w.context ∙ e) ∙ rw z
 
   pub context-first : (before : List (Member ℕ)) → SeenIs k before → k.context ≡ false
       → past (declares (parse_context_declaration (start_in t) before)) (stream s t) ≡ and_then (past from_source (stream s t)) (λ x. pure (declaration (context_by (start_in t) x)))
-  context-first before w e = past-at s t r h q _ ∙ context-is (start_in t) before (stream s u) (w.context ∙ e) ∙ rw (past-at s t r h q from_source)
+  context-first before w e = past-at s t u h _ ∙ context-is (start_in t) before (stream s u) (w.context ∙ e) ∙ rw (past-at s t u h from_source)
 
   pub dialects-refused : {c p : ℕ} → names (stream s u) ≡ refused c p → past dialects_at (stream s t) ≡ refused c p
   unfolding ◌>>=◌ and_then
-  dialects-refused e = past-at s t r h q dialects_at ∙ rw e
+  dialects-refused e = past-at s t u h dialects_at ∙ rw e
 
   module _ (i : IsToken t) (l : LiesIn s 0 t) where
     -- nothing is stored up to a token
-    lays-nothing : {v : Current} (a : Lent) → placed s t ≤ placed s v → Lays s t v 0 (flat nodes []) a a
+    lays-nothing : {v : Token} (a : Lent) → placed s t ≤ placed s v → Lays s t v 0 (flat nodes []) a a
     lays-nothing a o = rw (flat-none nodes) (lays-between 0 (lays-none t 0 a) (omega arith) o (omega arith))
 
     pub detect_declares : (a : Lent) → Declares (λ _. past (pure detect_delim) (stream s t)) k s t a u a 1 false
     unfolding pure
     detect_declares a =
-        let o = past-onward s t r h q i l in
+        let o = past-onward s t u h i l in
         let w = o.ahead in
         record {
           value = detect_delim;
-          gives = λ before z. past-at s t r h q (pure detect_delim);
+          gives = λ before z. past-at s t u h (pure detect_delim);
           onward = o;
           kinds = refl;
           tops = refl;
@@ -273,21 +283,21 @@ module _ (k : Seen) (s : List ℕ) (t : Current) (r : Arrived) (h : (next (strea
           lays = lays-nothing a (omega arith);
         }
 
-    -- names that were read without room
-    pub dialects-declares : {v : Current} {n x m y count : ℕ} {ws ts vs us : List ℕ} → Lists (names (stream s u)) (nodes_of (name_branch 24)) s u 2 (lent n [] x []) v (lent m vs y us) count
-        → Declares (λ _. past dialects_at (stream s t)) k s t (lent n ws x ts) v (lent n (vs ++ ws) x (us ++ ts)) 24 false
+    -- names that were read where nothing is lent
+    pub dialects-declares : (a : Lent) {v : Token} {b c : Lent} {count : ℕ} → Lists (names (stream s u)) (nodes_of (name_branch 24)) s u 2 b v c count
+        → Declares (λ _. past dialects_at (stream s t)) k s t a v a 24 false
     unfolding ◌>>=◌ and_then pure
-    dialects-declares {n = n} {x} {ws = ws} {ts} {vs} {us} f =
-        let o = onward_then (past-onward s t r h q i l) f.onward in
+    dialects-declares a f =
+        let o = onward_then (past-onward s t u h i l) f.onward in
         let w = o.ahead in
         record {
           value = dialects f.items;
-          gives = λ before z. past-at s t r h q dialects_at ∙ rw f.gives;
+          gives = λ before z. past-at s t u h dialects_at ∙ rw f.gives;
           onward = onward-least 1 o (omega arith);
           kinds = refl;
           tops = refl;
-          named = λ ns z. let y : f.items ≡ ns = cc in past-at s t r h q names ∙ f.gives ∙ rw y;
-          lays = rw (front-none vs ws f.lays.stores.same-words, front-none us ts f.lays.stores.same-texts) (lays-nothing (lent n ws x ts) (omega arith));
+          named = λ ns z. let y : f.items ≡ ns = cc in past-at s t u h names ∙ f.gives ∙ rw y;
+          lays = lays-nothing a (omega arith);
         }
 
 -- ------------------------------------------------------------------ what is true of all that is read
@@ -306,7 +316,7 @@ module _ {A B : Type 0} (P : B → Type 0) (f : A → Parser ℕ B) where
 abbrev IsOf : (kind : ℕ) → (top : Bool) → Declaration ℕ → Type 0
 IsOf k top d = (declaration_kind d ≡ k) × (is_top d ≡ top)
 
-top-by-kind : (o : Option (List ℕ)) (ts : Tokens ℕ) → Answers (IsOf 2 true) (top_by o ts)
+top-by-kind : (o : M.Option (List ℕ)) (ts : Tokens ℕ) → Answers (IsOf 2 true) (top_by o ts)
 unfolding top_by refuse_here ◌>>=◌ pure
 top-by-kind none ts = tt
 top-by-kind (some n) ts = answers-then (IsOf 2 true) (λ r. pure (Declaration.top_rule r)) (λ r us. (refl, refl)) (parse_rule ts)
@@ -339,14 +349,14 @@ module _ (p : ℕ) where
       answers-then (IsOf 19 false) _ (λ _ us. answers-then (IsOf 19 false) _ (λ n vs. answers-then (IsOf 19 false) _ (λ s xs. (refl, refl)) (parse_source vs)) (parse_identifier us)) (next ts)
 
 -- a word is said, or not
-pub says-word : (w : Quoted) {s : List ℕ} {part : Part} {b : Bool} → is_plain (letters w) ≡ true → Says s part (letters w) b → {whole : Part} → part ≡ whole → {c : Bool} → b ≡ c → says w (text_in s whole) ≡ c
+pub says-word : (w : Quoted) {s : List ℕ} {part : Option Part} {b : Bool} → is_plain (letters w) ≡ true → Says s part (letters w) b → {whole : Option Part} → part ≡ whole → {c : Bool} → b ≡ c → says w (text_in s whole) ≡ c
 says-word w p h e f = rw (← e, ← f) (h.said w refl p)
 
-pub said-token : (w : Quoted) (s : List ℕ) (t : Current) → says w (text_in s (name_of t)) ≡ true → IsToken t
-said-token w s (Token k start end) e = tt
-said-token w s (End p) e = absurd (let z : ◌≡◌ {A = ℕ} 0 1 = cc in omega arith)
+pub said-token : (w : Quoted) (s : List ℕ) (t : Token) → says w (text_in s (name_of t)) ≡ true → IsToken t
+said-token w s (Of k start end) e = tt
+said-token w s (Eof p) e = absurd (let z : ◌≡◌ {A = ℕ} 0 1 = cc in omega arith)
 
-module _ (p : ℕ) (s : List ℕ) (t : Current) where
+module _ (p : ℕ) (s : List ℕ) (t : Token) where
   abbrev Named : Quoted → Bool → Type 0
   Named w b = says w (text_in s (name_of t)) ≡ b
 
@@ -403,7 +413,7 @@ if_other : (b : Bool) (m n : Parser ℕ (Member ℕ)) (ts : Tokens ℕ) → Answ
 if_other true m n ts h k = h
 if_other false m n ts h k = k
 
-external-by-other : (p : ℕ) (o : Option (List ℕ)) (ts : Tokens ℕ) → Answers IsOther (external_by p o ts)
+external-by-other : (p : ℕ) (o : M.Option (List ℕ)) (ts : Tokens ℕ) → Answers IsOther (external_by p o ts)
 unfolding external_by refuse_here
 external-by-other p o ts =
     if_other (says "tokens" o) _ _ ts (declares-other (parse_external_tokens p) ts)
@@ -461,30 +471,30 @@ before-seen k =
     }
 
 -- after its keyword
-module _ (k : Seen) (s : List ℕ) (t : Current) (r : Arrived) (h : (next (stream s t) ≡ arrival s r) × Lies s (end_in t) r) {u : Current} (q : r ≡ At u) (i : IsToken t) (l : LiesIn s 0 t) where
-  pub external-past : (p : ℕ) (a : Lent) (ws ts : List ℕ) (d : Declared) → DeclaresTo (λ _. parse_external_declaration p (stream s u)) k s u a ws ts d
-      → DeclaresTo (λ _. past (parse_external_declaration p) (stream s t)) k s t a ws ts d
-  external-past p a ws ts (Done v n x kind top) f =
-      let y : Answers IsOther (read f.value (stream s v)) = rw (f.gives (before_of k) (before-seen k)) at (external-kind p (stream s u)) in
+module _ (k : Seen) (s : List ℕ) (t u : Token) (h : (next (stream s t) ≡ read tt (stream s u)) × LiesIn s (end_in t) u) (i : IsToken t) (l : LiesIn s 0 t) where
+  pub external-past : (p : ℕ) (a c : Lent) (r : Result Declared Stop) → DeclaresTo (λ _. parse_external_declaration p (stream s u)) k s u a c r
+      → DeclaresTo (λ _. past (parse_external_declaration p) (stream s t)) k s t a c r
+  external-past p a c (Ok d) f =
+      let y : Answers IsOther (read f.value (stream s d.token)) = rw (f.gives (before_of k) (before-seen k)) at (external-kind p (stream s u)) in
       record {
         value = f.value;
-        gives = λ before z. past-at s t r h q (parse_external_declaration p) ∙ f.gives before z;
-        onward = onward-least 1 (onward_then (past-onward s t r h q i l) f.onward) (omega arith);
+        gives = λ before z. past-at s t u h (parse_external_declaration p) ∙ f.gives before z;
+        onward = onward-least 1 (onward_then (past-onward s t u h i l) f.onward) (omega arith);
         kinds = f.kinds;
         tops = f.tops;
         named = λ ns z. absurd (y ns z);
-        lays = past-lays s t r h q i l f.lays;
+        lays = past-lays s t u h i l f.lays;
       }
-  external-past p a ws ts (Not c o) f = λ before z. past-at s t r h q (parse_external_declaration p) ∙ f before z
+  external-past p a c (Err e) f = λ before z. past-at s t u h (parse_external_declaration p) ∙ f before z
 
 -- ------------------------------------------------------------------ by the keyword
 
-module _ (s : List ℕ) (t : Current) (before : List (Member ℕ)) where
-  pub declaration-rule : at_of t ≡ Nothing → parse_declaration before (stream s t) ≡ and_then (parse_rule (stream s t)) (λ r. pure (declaration (Declaration.rule r)))
+module _ (s : List ℕ) (t : Token) (before : List (Member ℕ)) where
+  pub declaration-rule : at_of t ≡ None → parse_declaration before (stream s t) ≡ and_then (parse_rule (stream s t)) (λ r. pure (declaration (Declaration.rule r)))
   unfolding parse_declaration here kind declaration_by ◌>>=◌ and_then
   declaration-rule e = rw (parse_declaration, start-of s t, at-of s t, e)
 
-  pub declaration-directive : {a e : ℕ} → at_of t ≡ From a e → parse_declaration before (stream s t) ≡ parse_directive (start_in t) before (part_of s a e) (stream s t)
+  pub declaration-directive : {a : Part} → at_of t ≡ Some a → parse_declaration before (stream s t) ≡ parse_directive (start_in t) before (part_of s a) (stream s t)
   unfolding parse_declaration here kind declaration_by ◌>>=◌ and_then
   declaration-directive e = rw (parse_declaration, start-of s t, at-of s t, e)
 
@@ -501,7 +511,7 @@ local_then p ts {B} f = go (next ts)
     go (read x us) = behind (expect_name "tokens" us)
     go (refused c q) = refl
 
-module _ (p : ℕ) (x : List ℕ) (s : List ℕ) (t : Current) (before : List (Member ℕ)) where
+module _ (p : ℕ) (x : List ℕ) (s : List ℕ) (t : Token) (before : List (Member ℕ)) where
   abbrev Spelt : Quoted → Bool → Type 0
   Spelt w b = spells w x ≡ b
 

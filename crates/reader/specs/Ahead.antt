@@ -1,12 +1,20 @@
 -- The kind of a declaration, and of a member of a block, from its first tokens, before it is read; 0 where it is not known.
 -- Assumes nothing.
-use Rattle.std.specs.Prelude.{ℕ, Bool, List}
+use Rattle.std.specs.Prelude as Std
+use Rattle.std.specs.Prelude.{ℕ, Bool, List, Some, None}
 use Rattle.std.proofs.Math.Option.{Option, none, some}
 use Rattle.basics.specs.Basics.{if◌then◌otherwise◌}
 use Rattle.lexer.specs.Tokens.{Tokens}
 use Rattle.notation.specs.Parser.{Answer, read, refused, kind_of, name_in, at_in, string_in, says, next}
+use Rattle.tree.specs.Promise.{kind_number}
+use Rattle.tree.specs.declared.NodeKind.{NodeKind}
 use Rattle.reader.specs.declared.blocks.Block.{Block}
 use Rattle.reader.specs.declared.blocks.Block.TheVariants as B
+
+-- the number of a kind that is known
+abbrev pub ahead_number : Std.Option NodeKind → ℕ
+ahead_number (Some k) = kind_number k
+ahead_number None = 0
 
 -- by the name after `@external`
 unfoldable pub external_kind : Option (List ℕ) → ℕ

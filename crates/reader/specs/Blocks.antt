@@ -1,8 +1,7 @@
 -- The blocks whose members are stored in groups: what stands in them, in which kinds, and what is stored of it.
 -- Assumes nothing.
-use Rattle.std.specs.Prelude.{ℕ, ◌+◌, ◌*◌, ◌≤◌, ◌≡◌, Bool, true, false, List, [], ◌∷◌, length, get_or, set}
-use Rattle.error.specs.declared.Cause.{Cause}
-use Rattle.error.specs.declared.Cause.TheVariants.{UnexpectedToken}
+use Rattle.std.specs.Prelude.{ℕ, ◌+◌, ◌*◌, ◌≤◌, ◌≡◌, Bool, true, false, List, [], ◌∷◌, length, get_or, set, Result, Ok, Err}
+use Rattle.error.specs.declared.Stop.{Stop}
 use Rattle.basics.specs.Basics.{is_empty, picked}
 use Rattle.error.specs.Promise.{cause_number}
 use Rattle.lexer.specs.Tokens as T
@@ -15,19 +14,19 @@ use Rattle.notation.specs.Declarations.{parse_token_member, parse_local_member, 
 use Rattle.tokens.specs.Promise.{stream, LiesIn}
 use Rattle.parser.specs.Storing.{Lent, lent, Stores, flat}
 use Rattle.parser.specs.Steps.{placed, Onward, Lays, between_by}
-use Rattle.tokens.specs.declared.Current.{Current}
+use Rattle.lexer.specs.declared.Token.{Token}
 use Rattle.parser.specs.declared.props.Comma.{Comma}
 use Rattle.parser.specs.declared.props.Comma.TheVariants.{May, No}
-use Rattle.parser.specs.declared.props.Parsed.{Parsed}
-use Rattle.parser.specs.declared.props.Parsed.TheVariants as P
-use Rattle.parser.specs.declared.props.Listed.{Listed}
-use Rattle.parser.specs.declared.props.Listed.TheVariants as L
+use Rattle.parser.specs.declared.store.Store.{Store}
+use Rattle.tree.specs.Promise.{kind_number}
+use Rattle.tree.specs.declared.NodeKind.{NodeKind}
 use Rattle.reader.specs.Groups.{all_of, Gathers}
-use Rattle.reader.specs.Places.{place_in, group_at, Fills}
+use Rattle.reader.specs.Places.{place_in, words_in, bytes_in, group_at, Fills}
 use Rattle.reader.specs.declared.blocks.Block.{Block}
 use Rattle.reader.specs.declared.blocks.Block.TheVariants.{Tokens, LocalTokens, ExternalTokens, Specializer, Skip}
+use Rattle.reader.specs.declared.blocks.Extent.{Extent}
 use Rattle.reader.specs.declared.blocks.Joined.{Joined}
-use Rattle.reader.specs.declared.blocks.Joined.TheVariants.{Done, Refused}
+use Rattle.reader.specs.declared.blocks.Members.{Members}
 
 -- what stands in a block
 abbrev pub MemberOf : Block → Type 0
@@ -110,23 +109,12 @@ Free ExternalTokens ms f = Unit {0}
 Free Specializer ms f = Unit {0}
 Free Skip ms f = Unit {0}
 
--- the cause that a refusal says
-abbrev pub joined_cause : Joined → Cause
-joined_cause (Refused c p) = c
-joined_cause (Done u n x k kind) = UnexpectedToken
-
--- its place
-abbrev pub joined_place : Joined → ℕ
-joined_place (Refused c p) = p
-joined_place (Done u n x k kind) = 0
-
 -- what was read is one member of a kind
-abbrev pub one_of : (kind : ℕ) → Parsed → Joined
-one_of k (P.Done u n x) = Done u n x 1 k
-one_of k (P.Refused c p) = Refused c p
+abbrev pub one_of : NodeKind → Token → Joined
+one_of k t = record { token = t; count = 1; kind = k }
 
 -- a member is read whatever stands before it, and its branches are stored
-pub record Joins (b : Block) (free : Bool) (s : List ℕ) (t : Current) (a : Lent) (u : Current) (c : Lent) (count kind : ℕ) : Type 0 where
+pub record Joins (b : Block) (free : Bool) (s : List ℕ) (t : Token) (a : Lent) (u : Token) (c : Lent) (count kind : ℕ) : Type 0 where
   pub value : MemberOf b
   pub gives : (before : List (MemberOf b)) → Free b before free → member_of b before (stream s t) ≡ read value (stream s u)
   pub onward : Onward s t u 1
@@ -135,16 +123,16 @@ pub record Joins (b : Block) (free : Bool) (s : List ℕ) (t : Current) (a : Len
   pub lays : Lays s t u 0 (flat nodes (branches_of b value)) a c
 
 -- what an answer says of a member, whatever stands before it: it is read and stored, or it is this refusal
-abbrev pub JoinsTo : (b : Block) → (free : Bool) → List ℕ → Current → Lent → (words texts : List ℕ) → Joined → Type 0
-JoinsTo b f s t a ws ts (Done u n x count kind) = Joins b f s t a u (lent n ws x ts) count kind
-JoinsTo b f s t a ws ts (Refused c p) = (before : List (MemberOf b)) → Free b before f → member_of b before (stream s t) ≡ refused (cause_number c) p
+abbrev pub JoinsTo : (b : Block) → (free : Bool) → List ℕ → Token → (a c : Lent) → Result Joined Stop → Type 0
+JoinsTo b f s t a c (Ok j) = Joins b f s t a j.token c j.count (kind_number j.kind)
+JoinsTo b f s t a c (Err e) = (before : List (MemberOf b)) → Free b before f → member_of b before (stream s t) ≡ refused (cause_number e.cause) e.place
 
 -- where a function may begin that reads a part of the text more than once: the text is short, and half of the room is left
-pub record Roomy (s : List ℕ) (t : Current) (n x : ℕ) : Type 0 where
+pub record Roomy (s : List ℕ) (t : Token) (a : Lent) : Type 0 where
   pub lies : LiesIn s 0 t
   pub small : length s ≤ 0x10000
-  pub room : n + 14 * length s ≤ 0x20000000 + 14 * placed s t
-  pub space : x + 3 * length s ≤ 0x20000000 + 3 * placed s t
+  pub room : a.n + 14 * length s ≤ 0x20000000 + 14 * placed s t
+  pub space : a.x + 3 * length s ≤ 0x20000000 + 3 * placed s t
 
 -- ------------------------------------------------------------------ groups at their places
 
@@ -157,7 +145,7 @@ abbrev pub block_count : ℕ
 block_count = 4
 
 -- a member is read that takes so many words and bytes, and it is stored where its group goes on
-pub record Settles (b : Block) (free : Bool) (s : List ℕ) (t : Current) (ps qs ps₁ qs₁ ws ts vs us : List ℕ) (u : Current) (words bytes count kind : ℕ) : Type 0 where
+pub record Settles (b : Block) (free : Bool) (s : List ℕ) (t : Token) (ps qs ps₁ qs₁ ws ts vs us : List ℕ) (u : Token) (words bytes count kind : ℕ) : Type 0 where
   pub joins : Joins b free s t (lent 0 [] 0 []) u (lent words [] bytes []) count kind
   pub words-on : ps₁ ≡ set ps (place_of b joins.value) (get_or ps (place_of b joins.value) 0 + words)
   pub bytes_on : qs₁ ≡ set qs (place_of b joins.value) (get_or qs (place_of b joins.value) 0 + bytes)
@@ -165,25 +153,25 @@ pub record Settles (b : Block) (free : Bool) (s : List ℕ) (t : Current) (ps qs
       (lent (get_or ps (place_of b joins.value) 0 + words) vs (get_or qs (place_of b joins.value) 0 + bytes) us)
 
 -- what an answer says of a member, whatever stands before it: it is read, and stored where its group goes on, or it is this refusal
-abbrev pub SettlesTo : (b : Block) → (free : Bool) → List ℕ → Current → (ps qs ps₁ qs₁ ws ts vs us : List ℕ) → Joined → Type 0
-SettlesTo b f s t ps qs ps₁ qs₁ ws ts vs us (Done u n x count kind) = Settles b f s t ps qs ps₁ qs₁ ws ts vs us u n x count kind
-SettlesTo b f s t ps qs ps₁ qs₁ ws ts vs us (Refused c p) = (before : List (MemberOf b)) → Free b before f → member_of b before (stream s t) ≡ refused (cause_number c) p
+abbrev pub SettlesTo : (b : Block) → (free : Bool) → List ℕ → Token → (places after : List Extent) → (a c : Store) → Result (Joined × Extent) Stop → Type 0
+SettlesTo b f s t ps qs a c (Ok (j, size)) = Settles b f s t (words_in ps) (bytes_in ps) (words_in qs) (bytes_in qs) a.records.now a.texts.now c.records.now c.texts.now j.token size.words size.bytes j.count (kind_number j.kind)
+SettlesTo b f s t ps qs a c (Err e) = (before : List (MemberOf b)) → Free b before f → member_of b before (stream s t) ≡ refused (cause_number e.cause) e.place
 
 -- all members are read, which take so many words and bytes, and their groups are filled in
-pub record Spreads (b : Block) (s : List ℕ) (t : Current) (ps qs ps₁ qs₁ ws ts vs us : List ℕ) (u : Current) (words bytes count : ℕ) : Type 0 where
+pub record Spreads (b : Block) (s : List ℕ) (t : Token) (ps qs ps₁ qs₁ ws ts vs us : List ℕ) (u : Token) (words bytes count : ℕ) : Type 0 where
   pub gathers : Gathers (members_of b (stream s t)) (all_of (kind_of b) (branches_of b) 0) s t 1 (lent 0 [] 0 []) u (lent words [] bytes []) count
   pub fills : Fills (place_of b) (branches_of b) block_count gathers.members ps qs ps₁ qs₁ ws ts vs us
 
 -- what an answer says of the members of a block: they are read and their groups filled in, or refused with this cause and place
-abbrev pub SpreadsTo : (b : Block) → List ℕ → Current → (ps qs ps₁ qs₁ ws ts vs us : List ℕ) → Listed → Type 0
-SpreadsTo b s t ps qs ps₁ qs₁ ws ts vs us (L.Done u n x count) = Spreads b s t ps qs ps₁ qs₁ ws ts vs us u n x count
-SpreadsTo b s t ps qs ps₁ qs₁ ws ts vs us (L.Refused c p) = members_of b (stream s t) ≡ refused (cause_number c) p
+abbrev pub SpreadsTo : (b : Block) → List ℕ → Token → (places after : List Extent) → (a c : Store) → Result Members Stop → Type 0
+SpreadsTo b s t ps qs a c (Ok m) = Spreads b s t (words_in ps) (bytes_in ps) (words_in qs) (bytes_in qs) a.records.now a.texts.now c.records.now c.texts.now m.token m.size.words m.size.bytes m.count
+SpreadsTo b s t ps qs a c (Err e) = members_of b (stream s t) ≡ refused (cause_number e.cause) e.place
 
 -- the first group of the members that are read takes so many words
-abbrev pub FirstIs : (b : Block) → List ℕ → Current → (size : ℕ) → Type 0
+abbrev pub FirstIs : (b : Block) → List ℕ → Token → (size : ℕ) → Type 0
 FirstIs b s t n = (ms : List (MemberOf b)) (us : T.Tokens ℕ) → members_of b (stream s t) ≡ read ms us → n ≡ width * length (flat nodes (group_at (place_of b) (branches_of b) 0 ms))
 
 -- of members that are read the first size is that of the first group, in words; of a refusal nothing is said
-abbrev pub FirstTo : (b : Block) → List ℕ → Current → (sizes : List ℕ) → Listed → Type 0
-FirstTo b s t sizes (L.Done u n x count) = FirstIs b s t (get_or sizes 0 0)
-FirstTo b s t sizes (L.Refused c p) = Unit {0}
+abbrev pub FirstTo : (b : Block) → List ℕ → Token → (sizes : List Extent) → Result (Token × ℕ) Stop → Type 0
+FirstTo b s t sizes (Ok r) = FirstIs b s t (get_or (words_in sizes) 0 0)
+FirstTo b s t sizes (Err e) = Unit {0}

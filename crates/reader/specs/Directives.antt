@@ -1,8 +1,7 @@
 -- Declarations at top level: what is read of one, given which kinds stand before it, and what is stored of it.
 -- Assumes nothing.
-use Rattle.std.specs.Prelude.{ℕ, ◌+◌, ◌≡◌, Bool, false, not, List, [], ◌∷◌, ◌++◌, length}
-use Rattle.error.specs.declared.Cause.{Cause}
-use Rattle.error.specs.declared.Cause.TheVariants.{UnexpectedToken}
+use Rattle.std.specs.Prelude.{ℕ, ◌+◌, ◌≡◌, Bool, false, not, List, [], ◌∷◌, ◌++◌, length, Result, Ok, Err}
+use Rattle.error.specs.declared.Stop.{Stop}
 use Rattle.basics.specs.Basics.{is_empty, picked}
 use Rattle.error.specs.Promise.{cause_number}
 use Rattle.characters.specs.Utf8.{encode_all}
@@ -13,18 +12,17 @@ use Rattle.notation.specs.Parser.{Answer, read, refused, Parser, ◌>>=◌, ◌>
 use Rattle.notation.specs.Members.{SkipMember, skip_top_rule, Member, declaration, dialects, external_prop, detect_delim}
 use Rattle.notation.specs.Declarations.{names, is_top, seen, block, top_by, parse_local_tokens, parse_external_prop, parse_source, parse_skip_member}
 use Rattle.tokens.specs.Promise.{stream}
-use Rattle.parser.specs.Storing.{Lent, lent, node, flat}
+use Rattle.parser.specs.Storing.{Lent, node, flat}
 use Rattle.parser.specs.Steps.{Onward, Lays, between_by}
-use Rattle.tokens.specs.declared.Current.{Current}
-use Rattle.parser.specs.declared.props.Parsed.{Parsed}
-use Rattle.parser.specs.declared.props.Parsed.TheVariants as P
+use Rattle.lexer.specs.declared.Token.{Token}
+use Rattle.tree.specs.Promise.{kind_number}
+use Rattle.tree.specs.declared.NodeKind.{NodeKind}
 use Rattle.reader.specs.Groups.{groups_of}
 use Rattle.reader.specs.Blocks.{MemberOf, member_of, comma_of, kinds_of, kind_of, branches_of}
 use Rattle.reader.specs.declared.blocks.Block.{Block}
 use Rattle.reader.specs.declared.blocks.Block.TheVariants.{Skip}
 use Rattle.reader.specs.declared.directives.Seen.{Seen}
 use Rattle.reader.specs.declared.directives.Declared.{Declared}
-use Rattle.reader.specs.declared.directives.Declared.TheVariants.{Done, Refused}
 
 -- the token is taken, and then what p reads
 abbrev pub past : {A : Type 0} → Parser ℕ A → Parser ℕ A
@@ -103,12 +101,11 @@ pub record SeenIs (k : Seen) (before : List (Member ℕ)) : Type 0 where
   pub skip : seen 22 before ≡ k.skip
 
 -- what was read is a declaration of a kind
-abbrev pub declared_of : (kind : ℕ) → (top : Bool) → Parsed → Declared
-declared_of k top (P.Done u n x) = Done u n x k top
-declared_of k top (P.Refused c p) = Refused c p
+abbrev pub declared_of : NodeKind → (top : Bool) → Token → Declared
+declared_of k top t = record { token = t; kind = k; top = top }
 
 -- with these kinds before, D is a member whose branches are stored
-pub record Declares (D : List (Member ℕ) → Answer ℕ (Member ℕ)) (k : Seen) (s : List ℕ) (t : Current) (a : Lent) (u : Current) (b : Lent) (kind : ℕ) (top : Bool) : Type 0 where
+pub record Declares (D : List (Member ℕ) → Answer ℕ (Member ℕ)) (k : Seen) (s : List ℕ) (t : Token) (a : Lent) (u : Token) (b : Lent) (kind : ℕ) (top : Bool) : Type 0 where
   pub value : Member ℕ
   pub gives : (before : List (Member ℕ)) → SeenIs k before → D before ≡ read value (stream s u)
   pub onward : Onward s t u 1
@@ -117,24 +114,10 @@ pub record Declares (D : List (Member ℕ) → Answer ℕ (Member ℕ)) (k : See
   pub named : (ns : List (Identifier ℕ)) → value ≡ dialects ns → past names (stream s t) ≡ read ns (stream s u)
   pub lays : Lays s t u 0 (flat nodes (member_branches value)) a b
 
--- the cause that a refusal says
-abbrev pub declared_cause : Declared → Cause
-declared_cause (Refused c p) = c
-declared_cause (Done u n x kind top) = UnexpectedToken
-
--- its place
-abbrev pub declared_place : Declared → ℕ
-declared_place (Refused c p) = p
-declared_place (Done u n x kind top) = 0
-
 -- what an answer says of D, with these kinds before: it is a member whose branches are stored, or it is this refusal
-abbrev pub DeclaresTo : (List (Member ℕ) → Answer ℕ (Member ℕ)) → Seen → List ℕ → Current → Lent → (words texts : List ℕ) → Declared → Type 0
-DeclaresTo D k s t a ws ts (Done u n x kind top) = Declares D k s t a u (lent n ws x ts) kind top
-DeclaresTo D k s t a ws ts (Refused c p) = (before : List (Member ℕ)) → SeenIs k before → D before ≡ refused (cause_number c) p
-
--- a member that stores nothing, whatever is lent
-abbrev pub DeclaresAlone : (List (Member ℕ) → Answer ℕ (Member ℕ)) → Seen → List ℕ → Current → (n x : ℕ) → Declared → Type 0
-DeclaresAlone D k s t n x r = (ws ts : List ℕ) → DeclaresTo D k s t (lent n ws x ts) ws ts r
+abbrev pub DeclaresTo : (List (Member ℕ) → Answer ℕ (Member ℕ)) → Seen → List ℕ → Token → (a b : Lent) → Result Declared Stop → Type 0
+DeclaresTo D k s t a b (Ok d) = Declares D k s t a d.token b (kind_number d.kind) d.top
+DeclaresTo D k s t a b (Err e) = (before : List (Member ℕ)) → SeenIs k before → D before ≡ refused (cause_number e.cause) e.place
 
 -- ------------------------------------------------------------------ scoped skips
 
@@ -143,7 +126,7 @@ abbrev pub skips : Parser ℕ (List (SkipMember ℕ))
 skips = block nothing parse_skip_member
 
 -- the block is read; its nodes, and one over them and the expression before, are stored. The last may take the room of a token before
-pub record Scoping (start : ℕ) (s : List ℕ) (t : Current) (a : Lent) (u : Current) (b : Lent) (kind : ℕ) (top : Bool) : Type 0 where
+pub record Scoping (start : ℕ) (s : List ℕ) (t : Token) (a : Lent) (u : Token) (b : Lent) (kind : ℕ) (top : Bool) : Type 0 where
   pub members : List (SkipMember ℕ)
   pub gives : skips (stream s t) ≡ read members (stream s u)
   pub onward : Onward s t u 2
@@ -153,6 +136,6 @@ pub record Scoping (start : ℕ) (s : List ℕ) (t : Current) (a : Lent) (u : Cu
       ++ node 23 start [] 0 0 (1 + length (groups_of (kind_of Skip) (branches_of Skip) (kinds_of Skip) members)) ∷ []) a b
 
 -- what an answer says of the block of a scoped skip that starts at p: it is read and stored, or refused with this cause and place
-abbrev pub Scopes : (start : ℕ) → List ℕ → Current → Lent → (words texts : List ℕ) → Declared → Type 0
-Scopes p s t a ws ts (Done u n x kind top) = Scoping p s t a u (lent n ws x ts) kind top
-Scopes p s t a ws ts (Refused c q) = skips (stream s t) ≡ refused (cause_number c) q
+abbrev pub Scopes : (start : ℕ) → List ℕ → Token → (a b : Lent) → Result Declared Stop → Type 0
+Scopes p s t a b (Ok d) = Scoping p s t a d.token b (kind_number d.kind) d.top
+Scopes p s t a b (Err e) = skips (stream s t) ≡ refused (cause_number e.cause) e.place

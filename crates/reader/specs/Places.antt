@@ -1,17 +1,26 @@
 -- Groups that are filled in one pass: each has a place in the words and one in the bytes, and the members of a group are stored there one
 -- after another, wherever they stand in the text.
 -- Assumes nothing.
-use Rattle.std.specs.Prelude.{ℕ, suc, ◌+◌, ◌*◌, ◌≤◌, ◌<◌, ◌≡◌, List, [], ◌∷◌, ◌++◌, eqb, length, get_or}
+use Rattle.std.specs.Prelude.{ℕ, suc, ◌+◌, ◌*◌, ◌≤◌, ◌<◌, ◌≡◌, List, [], ◌∷◌, ◌++◌, eqb, length, get_or, map}
 use Rattle.basics.specs.Basics.{if◌then◌otherwise◌}
 use Rattle.tree.specs.Records.{Branch, nodes, width, records_from, words, texts_of}
 use Rattle.tokens.specs.Promise.{LiesIn}
-use Rattle.tokens.specs.declared.Current.{Current}
+use Rattle.lexer.specs.declared.Token.{Token}
+use Rattle.reader.specs.declared.blocks.Extent.{Extent}
 use Rattle.parser.specs.Storing.{flat}
 
 -- where a kind stands among kinds, or behind them all
 unfoldable pub place_in : List ℕ → (kind : ℕ) → ℕ
 place_in [] k = 0
 place_in (x ∷ xs) k = if eqb k x then 0 otherwise suc (place_in xs k)
+
+-- the words of places, or of sizes
+abbrev pub words_in : List Extent → List ℕ
+words_in es = map (λ e. e.words) es
+
+-- their bytes
+abbrev pub bytes_in : List Extent → List ℕ
+bytes_in es = map (λ e. e.bytes) es
 
 -- a list holds a part from a place on
 pub record Holds (whole : List ℕ) (at : ℕ) (part : List ℕ) : Type 0 where
@@ -62,7 +71,7 @@ pub record Blank (count : ℕ) (sizes : List ℕ) : Type 0 where
   pub none : (g : ℕ) → get_or sizes g 0 ≡ 0
 
 -- each group has a place in the words and one in the bytes, none of them past a limit, and the text is short
-pub record Begins (count limit : ℕ) (s : List ℕ) (t : Current) (word_places byte_places : List ℕ) : Type 0 where
+pub record Begins (count limit : ℕ) (s : List ℕ) (t : Token) (word_places byte_places : List ℕ) : Type 0 where
   pub lies : LiesIn s 0 t
   pub small : length s ≤ 0x10000
   pub words-all : length word_places ≡ count

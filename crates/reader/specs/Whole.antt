@@ -1,8 +1,7 @@
 -- The whole of a grammar file: what is noted in a pass over its declarations, and what is stored of them all.
 -- Assumes nothing.
-use Rattle.std.specs.Prelude.{ℕ, ◌+◌, ◌*◌, ◌≤◌, ◌<◌, ◌≡◌, Bool, true, false, not, ◌||◌, List, [], ◌∷◌, eqb, length, get_or, set}
-use Rattle.error.specs.declared.Cause.{Cause}
-use Rattle.error.specs.declared.Cause.TheVariants.{UnexpectedToken}
+use Rattle.std.specs.Prelude.{ℕ, ◌+◌, ◌*◌, ◌≤◌, ◌<◌, ◌≡◌, Bool, true, not, ◌||◌, List, [], ◌∷◌, eqb, length, get_or, set, Option, Some, None, Result, Ok, Err}
+use Rattle.error.specs.declared.Stop.{Stop}
 use Rattle.basics.specs.Basics.{if◌then◌otherwise◌, is_empty, over, picked, concat, last_of}
 use Rattle.error.specs.Causes.{records_full, texts_full}
 use Rattle.error.specs.Promise.{cause_number}
@@ -18,20 +17,18 @@ use Rattle.tokens.specs.Promise.{stream, start_in, LiesIn}
 use Rattle.parser.specs.Shapes.{IsToken}
 use Rattle.parser.specs.Storing.{Lent, lent, Stores, flat, nodes_of}
 use Rattle.parser.specs.Steps.{Onward, Lays}
-use Rattle.tokens.specs.declared.Current.{Current}
-use Rattle.parser.specs.declared.props.Listed.{Listed}
-use Rattle.parser.specs.declared.props.Listed.TheVariants as L
+use Rattle.lexer.specs.declared.Token.{Token}
+use Rattle.parser.specs.declared.store.Store.{Store}
+use Rattle.tree.specs.Promise.{kind_number}
 use Rattle.reader.specs.Groups.{all_of, MeasuredAs}
-use Rattle.reader.specs.Places.{place_in, group_at, Fills}
+use Rattle.reader.specs.Places.{place_in, words_in, bytes_in, group_at, Fills}
 use Rattle.reader.specs.Directives.{past, member_kind, member_branches, SeenIs, Declares}
 use Rattle.reader.specs.declared.directives.Seen.{Seen}
+use Rattle.reader.specs.declared.blocks.Extent.{Extent}
 use Rattle.reader.specs.declared.directives.Declared.{Declared}
-use Rattle.reader.specs.declared.directives.Declared.TheVariants as D
 use Rattle.reader.specs.declared.whole.Noted.{Noted}
 use Rattle.reader.specs.declared.whole.Passed.{Passed}
-use Rattle.reader.specs.declared.whole.Passed.TheVariants as P
-use Rattle.reader.specs.declared.whole.Whole.{Whole}
-use Rattle.reader.specs.declared.whole.Whole.TheVariants as W
+use Rattle.reader.specs.declared.whole.Stored.{Stored}
 
 -- the declarations up to the end
 abbrev pub members : Parser ℕ (List (Member ℕ))
@@ -44,7 +41,7 @@ abbrev pub records_of : (kind : ℕ) → ℕ
 records_of k = if eqb k 1 || eqb k 24 then 0 otherwise 1
 
 -- a declaration of a kind, which begins at the token t, is noted
-abbrev pub note_of : Noted → (t : Current) → (kind : ℕ) → (top : Bool) → Noted
+abbrev pub note_of : Noted → (t : Token) → (kind : ℕ) → (top : Bool) → Noted
 note_of n t k top =
     record {
       seen =
@@ -56,8 +53,7 @@ note_of n t k top =
           };
       top = n.top || top;
       delim = n.delim || eqb k 1;
-      listed = n.listed || eqb k 24;
-      last = if eqb k 24 then t otherwise n.last;
+      dialects = if eqb k 24 then Some t otherwise n.dialects;
     }
 
 -- the names of the last `@dialects`
@@ -65,23 +61,23 @@ unfoldable pub last_names : List (Member ℕ) → List (Identifier ℕ)
 last_names ms = concat (last_of (picked declared_dialects ms))
 
 -- the names are those that are read at the token last
-pub record NamedAt (s : List ℕ) (last : Current) (ns : List (Identifier ℕ)) : Type 0 where
+pub record NamedAt (s : List ℕ) (last : Token) (ns : List (Identifier ℕ)) : Type 0 where
   pub rest : Tokens ℕ
   pub gives : past names (stream s last) ≡ read ns rest
   pub lies : LiesIn s 0 last
   pub token : IsToken last
 
 -- the names are those that are read at the token last, if a list of dialects was noted; else there are none
-abbrev pub NamedIs : List ℕ → (listed : Bool) → (last : Current) → List (Identifier ℕ) → Type 0
-NamedIs s false last ns = ns ≡ []
-NamedIs s true last ns = NamedAt s last ns
+abbrev pub NamedIs : List ℕ → Option Token → List (Identifier ℕ) → Type 0
+NamedIs s None ns = ns ≡ []
+NamedIs s (Some last) ns = NamedAt s last ns
 
 -- what is noted of members
 pub record NotedIs (s : List ℕ) (n : Noted) (ms : List (Member ℕ)) : Type 0 where
   pub seen : SeenIs n.seen ms
   pub top : has_top (picked declared ms) ≡ n.top
   pub delim : not (is_empty (picked detects ms)) ≡ n.delim
-  pub named : NamedIs s n.listed n.last (last_names ms)
+  pub named : NamedIs s n.dialects (last_names ms)
 
 -- ------------------------------------------------------------------ groups
 
@@ -98,7 +94,7 @@ abbrev pub group_count : ℕ
 group_count = 13
 
 -- with these kinds before, a declaration is read that takes so many words and bytes, and it is stored where its group goes on
-pub record Places (k : Seen) (s : List ℕ) (t : Current) (ps qs ps₁ qs₁ ws ts vs us : List ℕ) (u : Current) (words bytes kind : ℕ) (top : Bool) : Type 0 where
+pub record Places (k : Seen) (s : List ℕ) (t : Token) (ps qs ps₁ qs₁ ws ts vs us : List ℕ) (u : Token) (words bytes kind : ℕ) (top : Bool) : Type 0 where
   pub declares : Declares (λ before. parse_declaration before (stream s t)) k s t (lent 0 [] 0 []) u (lent words [] bytes []) kind top
   pub words-on : ps₁ ≡ set ps (member_place declares.value) (get_or ps (member_place declares.value) 0 + words)
   pub bytes_on : qs₁ ≡ set qs (member_place declares.value) (get_or qs (member_place declares.value) 0 + bytes)
@@ -106,14 +102,14 @@ pub record Places (k : Seen) (s : List ℕ) (t : Current) (ps qs ps₁ qs₁ ws 
       (lent (get_or ps (member_place declares.value) 0 + words) vs (get_or qs (member_place declares.value) 0 + bytes) us)
 
 -- what an answer says of a declaration, with these kinds before: it is stored where its group goes on, or it is this refusal
-abbrev pub PlacesTo : Seen → List ℕ → Current → (ps qs ps₁ qs₁ ws ts vs us : List ℕ) → Declared → Type 0
-PlacesTo k s t ps qs ps₁ qs₁ ws ts vs us (D.Done u n x kind top) = Places k s t ps qs ps₁ qs₁ ws ts vs us u n x kind top
-PlacesTo k s t ps qs ps₁ qs₁ ws ts vs us (D.Refused c p) = (before : List (Member ℕ)) → SeenIs k before → parse_declaration before (stream s t) ≡ refused (cause_number c) p
+abbrev pub PlacesTo : Seen → List ℕ → Token → (places after : List Extent) → (a c : Store) → Result (Declared × Extent) Stop → Type 0
+PlacesTo k s t ps qs a c (Ok (d, size)) = Places k s t (words_in ps) (bytes_in ps) (words_in qs) (bytes_in qs) a.records.now a.texts.now c.records.now c.texts.now d.token size.words size.bytes (kind_number d.kind) d.top
+PlacesTo k s t ps qs a c (Err e) = (before : List (Member ℕ)) → SeenIs k before → parse_declaration before (stream s t) ≡ refused (cause_number e.cause) e.place
 
 -- ------------------------------------------------------------------ a pass
 
 -- all declarations are read, which take so many words and bytes, and their groups are filled in
-pub record Passes (s : List ℕ) (t : Current) (ps qs ps₁ qs₁ ws ts vs us : List ℕ) (u : Current) (words bytes count : ℕ) (n : Noted) : Type 0 where
+pub record Passes (s : List ℕ) (t : Token) (ps qs ps₁ qs₁ ws ts vs us : List ℕ) (u : Token) (words bytes count : ℕ) (n : Noted) : Type 0 where
   pub found : List (Member ℕ)
   pub gives : members (stream s t) ≡ read found (stream s u)
   pub onward : Onward s t u 0
@@ -122,27 +118,17 @@ pub record Passes (s : List ℕ) (t : Current) (ps qs ps₁ qs₁ ws ts vs us : 
   pub noted : NotedIs s n found
   pub fills : Fills member_place member_branches group_count found ps qs ps₁ qs₁ ws ts vs us
 
--- the cause that a refusal says
-abbrev pub passed_cause : Passed → Cause
-passed_cause (P.Refused c p) = c
-passed_cause (P.Done u n x count noted) = UnexpectedToken
-
--- its place
-abbrev pub passed_place : Passed → ℕ
-passed_place (P.Refused c p) = p
-passed_place (P.Done u n x count noted) = 0
-
 -- what an answer says of all declarations: they are noted and their groups filled in, or they are refused with this cause and place
-abbrev pub PassesTo : List ℕ → Current → (ps qs ps₁ qs₁ ws ts vs us : List ℕ) → Passed → Type 0
-PassesTo s t ps qs ps₁ qs₁ ws ts vs us (P.Done u n x count noted) = Passes s t ps qs ps₁ qs₁ ws ts vs us u n x count noted
-PassesTo s t ps qs ps₁ qs₁ ws ts vs us (P.Refused c p) = members (stream s t) ≡ refused (cause_number c) p
+abbrev pub PassesTo : List ℕ → Token → (places after : List Extent) → (a c : Store) → Result Passed Stop → Type 0
+PassesTo s t ps qs a c (Ok r) = Passes s t (words_in ps) (bytes_in ps) (words_in qs) (bytes_in qs) a.records.now a.texts.now c.records.now c.texts.now r.end r.size.words r.size.bytes r.count r.noted
+PassesTo s t ps qs a c (Err e) = members (stream s t) ≡ refused (cause_number e.cause) e.place
 
 -- ------------------------------------------------------------------ dialects
 
 -- there are names as is noted
 pub record HasNames (s : List ℕ) (n : Noted) : Type 0 where
   pub the : List (Identifier ℕ)
-  pub are : NamedIs s n.listed n.last the
+  pub are : NamedIs s n.dialects the
 
 -- the names are stored, so many, with at most two nodes for each byte of the text and three bytes
 pub record Names (ns : List (Identifier ℕ)) (s : List ℕ) (a b : Lent) (count : ℕ) : Type 0 where
@@ -152,9 +138,9 @@ pub record Names (ns : List (Identifier ℕ)) (s : List ℕ) (a b : Lent) (count
   pub short : length (texts_of (flat (nodes_of (name_branch 24)) ns)) ≤ 3 * length s
 
 -- what an answer says of the names that are noted: they are stored; they are never refused
-abbrev pub NamesTo : List ℕ → Noted → Lent → (words texts : List ℕ) → Listed → Type 0
-NamesTo s n a ws ts (L.Done u m x count) = (ns : List (Identifier ℕ)) → NamedIs s n.listed n.last ns → Names ns s a (lent m ws x ts) count
-NamesTo s n a ws ts (L.Refused c p) = ⊥
+abbrev pub NamesTo : List ℕ → Noted → (a b : Lent) → Result ℕ Stop → Type 0
+NamesTo s n a b (Ok count) = (ns : List (Identifier ℕ)) → NamedIs s n.dialects ns → Names ns s a b count
+NamesTo s n a b (Err e) = ⊥
 
 -- ------------------------------------------------------------------ what is measured
 
@@ -166,17 +152,18 @@ pub record Sizes (ms : List (Member ℕ)) (words bytes : List ℕ) : Type 0 wher
   pub bytes-are : (g : ℕ) → g < group_count → get_or bytes g 0 ≡ length (texts_of (flat nodes (group_at member_place member_branches g ms)))
 
 -- all declarations are measured
-abbrev pub Surveyed : List ℕ → (t last : Current) → Type 0
+abbrev pub Surveyed : List ℕ → (t last : Token) → Type 0
 Surveyed s t last = MeasuredAs (members (stream s t)) member_kind member_branches 0 s t last
 
 -- all is measured, and there is room for it
-pub record Known (s : List ℕ) (t last : Current) (n : Noted) (count : ℕ) (word_sizes byte_sizes ws ts : List ℕ) : Type 0 where
+pub record Known (s : List ℕ) (t : Token) (n : Noted) (count : ℕ) (sizes_of : List Extent) (ws ts : List ℕ) : Type 0 where
+  pub last : Token
   pub arrives : arrive (tokens_at s 0) ≡ read tt (stream s t)
   pub surveyed : Surveyed s t last
   pub noted : NotedIs s n surveyed.members
   pub top : n.top ≡ true
   pub counted : length (all_of member_kind member_branches 0 surveyed.members) + length (last_names surveyed.members) ≡ count
-  pub sizes : Sizes surveyed.members word_sizes byte_sizes
+  pub sizes : Sizes surveyed.members (words_in sizes_of) (bytes_in sizes_of)
   pub few : length (grammar_words (grammar_of (start_in t) surveyed.members)) ≤ 28 * length s + 7
   pub words_fit : length (grammar_words (grammar_of (start_in t) surveyed.members)) ≤ length ws
   pub bytes_fit : length (grammar_texts (grammar_of (start_in t) surveyed.members)) ≤ length ts
@@ -184,7 +171,7 @@ pub record Known (s : List ℕ) (t last : Current) (n : Noted) (count : ℕ) (wo
 -- ------------------------------------------------------------------ the whole
 
 -- the first token of a text; it lies in the text
-pub record First (s : List ℕ) (t : Current) : Type 0 where
+pub record First (s : List ℕ) (t : Token) : Type 0 where
   pub arrives : arrive (tokens_at s 0) ≡ read tt (stream s t)
   pub lies : LiesIn s 0 t
 
@@ -227,6 +214,6 @@ pub data Stopped (s ws ts : List ℕ) (cause place : ℕ) : Type 0 where
   by_bytes : NoBytes s ws ts cause place → Stopped s ws ts cause place
 
 -- what a text, and words and bytes that are lent, give: the answer, and what they hold afterwards
-abbrev pub Reads : (s words texts words_after texts_after : List ℕ) → Whole → Type 0
-Reads s ws ts vs us (W.Stored n x) = Read s ws ts vs us n x
-Reads s ws ts vs us (W.Refused c p) = Stopped s ws ts (cause_number c) p × (vs ≡ ws) × (us ≡ ts)
+abbrev pub Reads : (s words texts words_after texts_after : List ℕ) → Result Stored Stop → Type 0
+Reads s ws ts vs us (Ok r) = Read s ws ts vs us r.words r.bytes
+Reads s ws ts vs us (Err e) = Stopped s ws ts (cause_number e.cause) e.place × (vs ≡ ws) × (us ≡ ts)

@@ -1,298 +1,212 @@
 // The whole of a grammar file, from its first token on. A first pass measures each group; a second stores each declaration in its group.
-ghost use Rattle.std.specs.Prelude.{◌≤◌, ◌≡◌, ◌||◌, eqb, length};
+ghost use Rattle.std.specs.Prelude.{◌≤◌, ◌≡◌, eqb, length};
 ghost use Rattle.basics.specs.Basics.{if◌then◌otherwise◌};
-ghost use Rattle.tree.specs.Stored.{flag as flag_d};
 ghost use Rattle.notation.specs.Parser.{next as next_d};
 ghost use Rattle.tokens.specs.Promise.{stream, LiesIn, Whole as Spelled, text_in};
-ghost use Rattle.parser.specs.Storing.{lent};
-ghost use Rattle.reader.specs.Places.{place_in, Blank, Begins};
-ghost use Rattle.reader.specs.Ahead.{external_kind, external_ahead, kind_ahead};
-ghost use Rattle.reader.specs.Whole.{passed_cause, passed_place, group_count, PlacesTo, records_of, note_of, PassesTo, HasNames, NamesTo, stored_kinds, Known, First, Reads};
+ghost use Rattle.tree.specs.Promise.{kind_number};
+ghost use Rattle.parser.specs.Storing.{lent_of, Kept};
+ghost use Rattle.reader.specs.Places.{place_in, words_in, bytes_in, Blank, Begins};
+ghost use Rattle.reader.specs.Ahead.{external_kind, external_ahead, kind_ahead, ahead_number};
+ghost use Rattle.reader.specs.Whole.{group_count, PlacesTo, records_of, note_of, PassesTo, HasNames, NamesTo, stored_kinds, Known, First, Reads};
 
+use crate::blocks::Extent;
 use crate::directives::{Declared, Seen};
 use crate::{blocks, top};
 use declarations::rules;
-use error::Cause;
-use parser::props::Listed;
-use parser::store;
-use tokens::{Arrived, Current, Part};
+use error::{Cause, Stop};
+use lexer::{Part, Token};
+use parser::store::Store;
+use tree::NodeKind;
 
-// What a pass has seen: which kinds, a top rule, `@detectDelim`, a list of dialects, and where the last one begins.
-#[derive(Clone, Copy)]
+// How many groups of declarations there are: one for each kind that is stored, and one for what has no records in a group.
+const GROUPS: usize = 13;
+
+// How many words the grammar's own record has.
+const WIDTH: usize = 7;
+
+// The last group that is stored: external props, behind the dialects.
+const LAST: usize = 11;
+
+// What a pass has seen: which kinds, a top rule, `@detectDelim`, and where the last list of dialects begins.
+#[derive(Clone, Copy, Debug, PartialEq, Eq)]
 pub struct Noted {
     pub seen: Seen,
     pub top: bool,
     pub delim: bool,
-    pub listed: bool,
-    pub last: Current,
+    pub dialects: Option<Token>,
 }
 
-#[derive(Clone, Copy)]
-pub enum Passed {
-    Done(Current, usize, usize, usize, Noted),
-    Refused(Cause, usize),
-}
-
-// What a refusal says: its cause, and its place.
-impl Passed {
-    pub fn cause(self) -> Cause
-        ensures { result ≡ passed_cause self }
-    {
-        match self {
-            Passed::Done(_, _, _, _, _) => Cause::UnexpectedToken,
-            Passed::Refused(cause, _) => cause,
-        }
-    }
-
-    pub fn place(self) -> usize
-        ensures { result ≡ passed_place self }
-    {
-        match self {
-            Passed::Done(_, _, _, _, _) => 0,
-            Passed::Refused(_, at) => at,
-        }
-    }
+// All declarations are stored: the end, how much they take, how many records of the grammar's own they have, and what was noted.
+#[derive(Clone, Copy, Debug, PartialEq, Eq)]
+pub struct Passed {
+    pub end: Token,
+    pub size: Extent,
+    pub count: usize,
+    pub noted: Noted,
 }
 
 // The tree is stored: how many words and bytes it takes.
-#[derive(Clone, Copy)]
-pub enum Whole {
-    Stored(usize, usize),
-    Refused(Cause, usize),
-}
-
-fn either(a: bool, b: bool) -> bool
-    ensures { result ≡ a || b }
-{
-    if a {
-        return true;
-    }
-    b
+#[derive(Clone, Copy, Debug, PartialEq, Eq)]
+pub struct Stored {
+    pub words: usize,
+    pub bytes: usize,
 }
 
 // Where the group of a kind stands among the groups; behind them what has no records in one.
-fn place(kind: u32) -> usize
-    ensures { result ≡ place_in stored_kinds kind }
+fn place(kind: NodeKind) -> usize
+    ensures { result ≡ place_in stored_kinds (kind_number kind) }
 {
     match kind {
-        2 => 0,
-        3 => 1,
-        8 => 2,
-        12 => 3,
-        14 => 4,
-        16 => 5,
-        18 => 6,
-        19 => 7,
-        20 => 8,
-        22 => 9,
-        23 => 10,
-        25 => 11,
+        NodeKind::TopRule => 0,
+        NodeKind::Rule => 1,
+        NodeKind::Tokens => 2,
+        NodeKind::LocalTokens => 3,
+        NodeKind::Context => 4,
+        NodeKind::ExternalTokens => 5,
+        NodeKind::ExternalSpecializer => 6,
+        NodeKind::PropSource => 7,
+        NodeKind::Precedences => 8,
+        NodeKind::MainSkip => 9,
+        NodeKind::ScopedSkip => 10,
+        NodeKind::ExternalProp => 11,
         _ => 12,
     }
 }
 
-// A declaration whose kind is not known ahead, stored where its group goes on, and how much it takes; the places of the group move on. A
+// A declaration whose kind is not known ahead, stored where its group goes on, and how much it takes; the place of the group moves on. A
 // first reading, over nothing, shows its kind, and is enough where nothing is lent.
 fn declaration_measured(
     source: &[u8],
-    token: Current,
+    token: Token,
     seen: Seen,
-    words: &mut [usize],
-    bytes: &mut [usize],
-    records: &mut [u32],
-    texts: &mut [u8],
-) -> Declared
-    requires { Begins group_count 0x10000000 source.now token words.old bytes.old }
-    ensures { PlacesTo seen source.now token words.old bytes.old words.new bytes.new
-        records.old texts.old records.new texts.new result }
+    places: &mut [Extent],
+    store: &mut Store,
+) -> Result<(Declared, Extent), Stop>
+    requires { Begins group_count 0x10000000 source.now token (words_in places.old) (bytes_in places.old) }
+    ensures kept { Kept store.old store.new }
+    ensures places { PlacesTo seen source.now token places.old places.new store.old store.new result }
 {
-    let measured = top::parse_declaration(
-        source,
-        token,
-        seen,
-        &mut records[..0],
-        0,
-        &mut texts[..0],
-        0,
-    );
-    let Declared::Done(u, m, y, kind, holds) = measured else {
-        return measured;
+    let mut measuring = Store::measuring();
+    let declared = top::parse_declaration(source, token, seen, &mut measuring)?;
+    let size = Extent {
+        words: measuring.n,
+        bytes: measuring.x,
     };
-    let p = place(kind);
-    let n = words[p];
-    let x = bytes[p];
-    words[p] = n + m;
-    bytes[p] = x + y;
-    if records.len() == 0 && texts.len() == 0 {
-        return Declared::Done(u, m, y, kind, holds);
+    let p = place(declared.kind);
+    let Extent { words, bytes } = places[p];
+    places[p] = Extent {
+        words: words + size.words,
+        bytes: bytes + size.bytes,
+    };
+    if !store.is_measuring() {
+        store.n = words;
+        store.x = bytes;
+        top::parse_declaration(source, token, seen, store)?;
     }
-    let stored = top::parse_declaration(source, token, seen, records, n, texts, x);
-    let Declared::Done(_, _, _, _, _) = stored else {
-        return stored;
-    };
-    Declared::Done(u, m, y, kind, holds)
+    Ok((declared, size))
 }
 
-// The kind of an external declaration, from the name after `@external`; 0 where it is not known.
-fn external_kind(source: &[u8], name: Part) -> u32
+// The kind of an external declaration, from the name after `@external`, where it is known.
+fn external_kind(source: &[u8], name: Option<Part>) -> Option<NodeKind>
     requires { Spelled source.now name }
-    ensures { result ≡ external_kind (text_in source.now name) }
+    ensures { ahead_number result ≡ external_kind (text_in source.now name) }
 {
     if tokens::says(source, name, b"tokens") {
-        return 16;
+        return Some(NodeKind::ExternalTokens);
     }
     if tokens::says(source, name, b"prop") {
-        return 25;
+        return Some(NodeKind::ExternalProp);
     }
-    if tokens::says(source, name, b"extend") {
-        return 18;
-    }
-    if tokens::says(source, name, b"specialize") {
-        return 18;
+    if tokens::says(source, name, b"extend") || tokens::says(source, name, b"specialize") {
+        return Some(NodeKind::ExternalSpecializer);
     }
     if tokens::says(source, name, b"propSource") {
-        return 19;
+        return Some(NodeKind::PropSource);
     }
-    0
+    None
 }
 
-// The kind of what stands at `@external`.
-fn external_ahead(source: &[u8], token: Current) -> u32
-    ensures { result ≡ external_ahead (next_d (stream source.now token)) }
+// The kind of what stands at `@external`, where it is known.
+fn external_ahead(source: &[u8], token: Token) -> Option<NodeKind>
+    ensures { ahead_number result ≡ external_ahead (next_d (stream source.now token)) }
 {
-    let Arrived::At(u) = tokens::next(source, token) else {
-        return 0;
+    let Ok(word) = tokens::next(source, token) else {
+        return None;
     };
-    external_kind(source, tokens::name(u))
+    external_kind(source, tokens::name(word))
 }
 
-// The kind of a declaration, from its first tokens; 0 where it is not known.
-fn kind_ahead(source: &[u8], token: Current) -> u32
+// The kind of a declaration, from its first tokens, where it is known.
+fn kind_ahead(source: &[u8], token: Token) -> Option<NodeKind>
     requires { LiesIn source.now 0 token }
-    ensures { result ≡ kind_ahead (stream source.now token) }
+    ensures { ahead_number result ≡ kind_ahead (stream source.now token) }
 {
     let at = tokens::at(token);
     if tokens::says(source, at, b"top") {
-        return 2;
+        return Some(NodeKind::TopRule);
     }
     if tokens::says(source, at, b"tokens") {
-        return 8;
+        return Some(NodeKind::Tokens);
     }
     if tokens::says(source, at, b"local") {
-        return 12;
+        return Some(NodeKind::LocalTokens);
     }
     if tokens::says(source, at, b"context") {
-        return 14;
+        return Some(NodeKind::Context);
     }
     if tokens::says(source, at, b"external") {
         return external_ahead(source, token);
     }
     if tokens::says(source, at, b"dialects") {
-        return 24;
+        return Some(NodeKind::Dialect);
     }
     if tokens::says(source, at, b"precedence") {
-        return 20;
+        return Some(NodeKind::Precedences);
     }
     if tokens::says(source, at, b"detectDelim") {
-        return 1;
+        return Some(NodeKind::Grammar);
     }
-    match at {
-        Part::Nothing => 3,
-        Part::From(_, _) => 0,
+    if at.is_none() {
+        return Some(NodeKind::Rule);
     }
+    None
 }
 
-// A declaration, stored where its group goes on, and how much it takes; the places of the group move on.
+// A declaration, stored where its group goes on, and how much it takes; the place of the group moves on.
 fn declaration_placed(
     source: &[u8],
-    token: Current,
+    token: Token,
     seen: Seen,
-    words: &mut [usize],
-    bytes: &mut [usize],
-    records: &mut [u32],
-    texts: &mut [u8],
-) -> Declared
-    requires { Begins group_count 0x10000000 source.now token words.old bytes.old }
-    ensures { PlacesTo seen source.now token words.old bytes.old words.new bytes.new
-        records.old texts.old records.new texts.new result }
+    places: &mut [Extent],
+    store: &mut Store,
+) -> Result<(Declared, Extent), Stop>
+    requires { Begins group_count 0x10000000 source.now token (words_in places.old) (bytes_in places.old) }
+    ensures kept { Kept store.old store.new }
+    ensures places { PlacesTo seen source.now token places.old places.new store.old store.new result }
 {
-    let ahead = kind_ahead(source, token);
-    if ahead == 0 {
-        return declaration_measured(source, token, seen, words, bytes, records, texts);
-    }
-    let p = place(ahead);
-    let n = words[p];
-    let x = bytes[p];
-    let declared = top::parse_declaration(source, token, seen, records, n, texts, x);
-    let Declared::Done(u, m, y, kind, holds) = declared else {
-        return declared;
+    let Some(ahead) = kind_ahead(source, token) else {
+        return declaration_measured(source, token, seen, places, store);
     };
-    words[p] = m;
-    bytes[p] = y;
-    Declared::Done(u, m - n, y - x, kind, holds)
-}
-
-// The later of two tokens: that of a list of dialects.
-fn latest(kind: u32, token: Current, last: Current) -> Current
-    ensures { result ≡ (if eqb kind 24 then token otherwise last) }
-{
-    if kind == 24 {
-        return token;
-    }
-    last
-}
-
-// A declaration of a kind, which begins at a token, is noted.
-fn note(noted: Noted, token: Current, kind: u32, top: bool) -> Noted
-    ensures { result ≡ note_of noted token kind top }
-{
-    let last = noted.last;
-    let seen = noted.seen;
-    Noted {
-        seen: Seen {
-            tokens: either(seen.tokens, kind == 8),
-            context: either(seen.context, kind == 14),
-            precedence: either(seen.precedence, kind == 20),
-            skip: either(seen.skip, kind == 22),
+    let p = place(ahead);
+    let Extent { words, bytes } = places[p];
+    store.n = words;
+    store.x = bytes;
+    let declared = top::parse_declaration(source, token, seen, store)?;
+    places[p] = Extent {
+        words: store.n,
+        bytes: store.x,
+    };
+    Ok((
+        declared,
+        Extent {
+            words: store.n - words,
+            bytes: store.x - bytes,
         },
-        top: either(noted.top, top),
-        delim: either(noted.delim, kind == 1),
-        listed: either(noted.listed, kind == 24),
-        last: latest(kind, token, last),
-    }
+    ))
 }
 
-// How many records of its own a declaration of a kind has; dialects are counted apart.
-fn records_of(kind: u32) -> usize
-    ensures { result ≡ records_of kind }
-{
-    if kind == 1 {
-        return 0;
-    }
-    if kind == 24 {
-        return 0;
-    }
-    1
-}
-
-// All declarations up to the end, each stored where its group goes on, and how much they take.
-fn pass(
-    source: &[u8],
-    token: Current,
-    words: &mut [usize],
-    bytes: &mut [usize],
-    records: &mut [u32],
-    texts: &mut [u8],
-) -> Passed
-    requires { Begins group_count 0x1000000 source.now token words.old bytes.old }
-    ensures { PassesTo source.now token words.old bytes.old words.new bytes.new
-        records.old texts.old records.new texts.new result }
-{
-    let mut t = token;
-    let mut m: usize = 0;
-    let mut y: usize = 0;
-    let mut count: usize = 0;
-    let mut noted = Noted {
+impl Noted {
+    const NOTHING: Noted = Noted {
         seen: Seen {
             tokens: false,
             context: false,
@@ -301,161 +215,208 @@ fn pass(
         },
         top: false,
         delim: false,
-        listed: false,
-        last: token,
+        dialects: None,
     };
-    loop {
-        match t {
-            Current::End(_) => {
-                return Passed::Done(t, m, y, count, noted);
-            }
-            Current::Token(_, _, _) => {
-                let declared = declaration_placed(
-                    source, t, noted.seen, words, bytes, records, texts,
-                );
-                let Declared::Done(u, k, z, kind, top) = declared else {
-                    return Passed::Refused(declared.cause(), declared.place());
-                };
-                noted = note(noted, t, kind, top);
-                count += records_of(kind);
-                t = u;
-                m += k;
-                y += z;
-            }
+
+    // A declaration of a kind, which begins at a token, is noted.
+    fn note(self, token: Token, kind: NodeKind, top: bool) -> Noted
+        ensures { result ≡ note_of self token (kind_number kind) top }
+    {
+        let seen = self.seen;
+        let noted = Noted {
+            top: self.top | top,
+            ..self
+        };
+        match kind {
+            NodeKind::Tokens => Noted {
+                seen: Seen {
+                    tokens: true,
+                    ..seen
+                },
+                ..noted
+            },
+            NodeKind::Context => Noted {
+                seen: Seen {
+                    context: true,
+                    ..seen
+                },
+                ..noted
+            },
+            NodeKind::Precedences => Noted {
+                seen: Seen {
+                    precedence: true,
+                    ..seen
+                },
+                ..noted
+            },
+            NodeKind::MainSkip => Noted {
+                seen: Seen { skip: true, ..seen },
+                ..noted
+            },
+            NodeKind::Grammar => Noted {
+                delim: true,
+                ..noted
+            },
+            NodeKind::Dialect => Noted {
+                dialects: Some(token),
+                ..noted
+            },
+            _ => noted,
         }
     }
 }
 
-// The names of the last `@dialects`.
-fn dialects(
-    source: &[u8],
-    noted: Noted,
-    records: &mut [u32],
-    n: usize,
-    texts: &mut [u8],
-    x: usize,
-) -> Listed
-    requires { HasNames source.now noted × (length source.now ≤ 0x10000) × (n ≤ 0x10000000) × (x ≤ 0x10000000) }
-    ensures { NamesTo source.now noted
-        (lent n records.old x texts.old) records.new texts.new result }
+// How many records of its own a declaration of a kind has; dialects are counted apart.
+fn records_of(kind: NodeKind) -> usize
+    ensures { result ≡ records_of (kind_number kind) }
 {
-    let last = noted.last;
-    if !noted.listed {
-        return Listed::Done(last, n, x, 0);
+    match kind {
+        NodeKind::Grammar | NodeKind::Dialect => 0,
+        _ => 1,
     }
-    let arrived = tokens::next(source, last);
-    let Arrived::At(u) = arrived else {
-        return Listed::Refused(arrived.cause(), arrived.place());
-    };
-    rules::parse_names(source, u, 24, records, n, texts, x)
 }
 
-fn flag(b: bool) -> u32
-    ensures { result ≡ flag_d b }
+// All declarations up to the end, each stored where its group goes on.
+fn pass(
+    source: &[u8],
+    token: Token,
+    places: &mut [Extent],
+    store: &mut Store,
+) -> Result<Passed, Stop>
+    requires { Begins group_count 0x1000000 source.now token (words_in places.old) (bytes_in places.old) }
+    ensures kept { Kept store.old store.new }
+    ensures passes { PassesTo source.now token places.old places.new store.old store.new result }
 {
-    if b {
-        return 1;
+    let mut t = token;
+    let mut words = 0;
+    let mut bytes = 0;
+    let mut count = 0;
+    let mut noted = Noted::NOTHING;
+    while let Token::Of(_, _, _) = t {
+        let (declared, size) = declaration_placed(source, t, noted.seen, places, store)?;
+        noted = noted.note(t, declared.kind, declared.top);
+        count += records_of(declared.kind);
+        t = declared.token;
+        words += size.words;
+        bytes += size.bytes;
     }
-    0
+    Ok(Passed {
+        end: t,
+        size: Extent { words, bytes },
+        count,
+        noted,
+    })
+}
+
+// The names of the last `@dialects`: how many.
+fn dialects(source: &[u8], noted: Noted, store: &mut Store) -> Result<usize, Stop>
+    requires { HasNames source.now noted × (length source.now ≤ 0x10000) × (store.old.n ≤ 0x10000000) × (store.old.x ≤ 0x10000000) }
+    ensures kept { Kept store.old store.new }
+    ensures names { NamesTo source.now noted (lent_of store.old) (lent_of store.new) result }
+{
+    let Some(last) = noted.dialects else {
+        return Ok(0);
+    };
+    let keyword = tokens::next(source, last)?;
+    let (_, count) = rules::parse_names(source, keyword, NodeKind::Dialect, store)?;
+    Ok(count)
 }
 
 // All that was measured is stored: the dialects before the last group, the groups, the grammar's record.
-fn store(
+fn store_groups(
     source: &[u8],
-    token: Current,
-    last: Current,
+    token: Token,
     noted: Noted,
     count: usize,
-    words: &mut [usize],
-    bytes: &mut [usize],
-    records: &mut [u32],
-    texts: &mut [u8],
-) -> Whole
-    requires { (length source.now ≤ 0x10000) × LiesIn source.now 0 token × Known source.now token last noted count words.old bytes.old records.old texts.old }
-    ensures { Reads source.now records.old texts.old records.new texts.new result }
+    groups: &mut [Extent],
+    store: &mut Store,
+) -> Result<Stored, Stop>
+    requires { (length source.now ≤ 0x10000) × LiesIn source.now 0 token
+        × Known source.now token noted count groups.old store.old.records.now store.old.texts.now }
+    ensures kept { Kept store.old store.new }
+    ensures reads { Reads source.now store.old.records.now store.old.texts.now store.new.records.now store.new.texts.now result }
 {
-    blocks::line_up(words, 0);
-    blocks::line_up(bytes, 0);
-    let m = words[11];
-    let y = bytes[11];
-    let listed = dialects(source, noted, records, m, texts, y);
-    let Listed::Done(_, k, z, _) = listed else {
-        return Whole::Refused(listed.cause(), listed.place());
+    blocks::line_up(groups, Extent::NONE);
+    store.n = groups[LAST].words;
+    store.x = groups[LAST].bytes;
+    dialects(source, noted, store)?;
+    groups[LAST] = Extent {
+        words: store.n,
+        bytes: store.x,
     };
-    words[11] = k;
-    bytes[11] = z;
-    let passed = pass(source, token, words, bytes, records, texts);
-    let Passed::Done(_, _, _, _, _) = passed else {
-        return Whole::Refused(passed.cause(), passed.place());
-    };
-    let i = words[11];
-    let w = bytes[11];
-    let j = store::put_plain(
-        records,
-        i,
-        1,
+    pass(source, token, groups, store)?;
+    store.n = groups[LAST].words;
+    store.x = groups[LAST].bytes;
+    store.put_plain(
+        NodeKind::Grammar,
         tokens::start(token),
-        flag(noted.delim),
+        noted.delim as u32,
         count,
     );
-    Whole::Stored(j, w)
+    Ok(Stored {
+        words: store.n,
+        bytes: store.x,
+    })
 }
 
 // From the first token on, with room for the sizes of the groups.
 fn parse_over(
     source: &[u8],
-    token: Current,
-    words: &mut [usize],
-    bytes: &mut [usize],
-    records: &mut [u32],
-    texts: &mut [u8],
-) -> Whole
-    requires { (length source.now ≤ 0x10000) × First source.now token × Blank group_count words.old × Blank group_count bytes.old }
-    ensures { Reads source.now records.old texts.old records.new texts.new result }
+    token: Token,
+    groups: &mut [Extent],
+    store: &mut Store,
+) -> Result<Stored, Stop>
+    requires { (length source.now ≤ 0x10000) × First source.now token × Blank group_count (words_in groups.old) × Blank group_count (bytes_in groups.old) }
+    ensures kept { Kept store.old store.new }
+    ensures reads { Reads source.now store.old.records.now store.old.texts.now store.new.records.now store.new.texts.now result }
 {
-    let passed = pass(
-        source,
-        token,
-        words,
-        bytes,
-        &mut records[..0],
-        &mut texts[..0],
-    );
-    let Passed::Done(last, n, x, count, noted) = passed else {
-        return Whole::Refused(passed.cause(), passed.place());
-    };
-    if !noted.top {
-        return Whole::Refused(Cause::NoTop, tokens::start(last));
-    }
-    let listed = dialects(source, noted, &mut records[..0], n, &mut texts[..0], x);
-    let Listed::Done(_, m, y, named) = listed else {
-        return Whole::Refused(listed.cause(), listed.place());
-    };
-    if records.len() < m + 7 {
-        return Whole::Refused(Cause::RecordsFull, 0);
-    }
-    if texts.len() < y {
-        return Whole::Refused(Cause::TextsFull, 0);
-    }
-    store(
-        source,
-        token,
-        last,
+    let mut measuring = Store::measuring();
+    let Passed {
+        end,
+        size,
+        count,
         noted,
-        count + named,
-        words,
-        bytes,
-        records,
-        texts,
-    )
+    } = pass(source, token, groups, &mut measuring)?;
+    if !noted.top {
+        return Err(Stop {
+            cause: Cause::NoTop,
+            place: tokens::start(end),
+        });
+    }
+    measuring.n = size.words;
+    measuring.x = size.bytes;
+    let named = dialects(source, noted, &mut measuring)?;
+    if store.records.len() < measuring.n + WIDTH {
+        return Err(Stop {
+            cause: Cause::RecordsFull,
+            place: 0,
+        });
+    }
+    if store.texts.len() < measuring.x {
+        return Err(Stop {
+            cause: Cause::TextsFull,
+            place: 0,
+        });
+    }
+    store_groups(source, token, noted, count + named, groups, store)
 }
 
 // From the first token on, the tree of a text is measured, and stored where there is room for all of it.
-pub fn parse_from(source: &[u8], token: Current, records: &mut [u32], texts: &mut [u8]) -> Whole
+pub fn parse_from(
+    source: &[u8],
+    token: Token,
+    records: &mut [u32],
+    texts: &mut [u8],
+) -> Result<Stored, Stop>
     requires { (length source.now ≤ 0x10000) × First source.now token }
     ensures { Reads source.now records.old texts.old records.new texts.new result }
 {
-    let mut words = [0usize; 13];
-    let mut bytes = [0usize; 13];
-    parse_over(source, token, &mut words, &mut bytes, records, texts)
+    let mut groups = [Extent::NONE; GROUPS];
+    let mut store = Store {
+        records,
+        n: 0,
+        texts,
+        x: 0,
+    };
+    parse_over(source, token, &mut groups, &mut store)
 }

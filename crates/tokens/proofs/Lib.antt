@@ -1,3 +1,3 @@
 pub mod Ends
 pub mod Stream
-pub mod Told
+pub mod Stops

@@ -6,6 +6,7 @@ use mathlib.Core.Path.{◌≡◌, refl, ap, sym, ◌∙◌}
 use mathlib.Core.Bool.{Bool, true, false, ◌&&◌, and-true, and-false, and_assoc, and_comm}
 use mathlib.Core.List.{List, [], ◌∷◌, ◌++◌, append_assoc, append-nil}
 use mathlib.Core.Option.{Option, none, some}
+use Rattle.std.proofs.Common.{Result, Ok, Err}
 use lib.Dec.{eqb}
 use lib.ListN.{length}
 use borrow.Author.Tests.{eqb-true, eqb-false, eq-eqb, ne_eqb}
@@ -13,8 +14,8 @@ use Rattle.basics.proofs.Tests.{cases, impossible}
 use Rattle.tree.specs.Records.{Row, Branch, branch, Branches, []ᴮ, ◌∷ᴮ◌, count, Node, nodes, nodes_all, width}
 use Rattle.tree.specs.OneTree.{kind_of, is_expression, rooted, build}
 use Rattle.tree.specs.Equality.{same_row, same_branch, same_branches, structurally_eq}
-use Rattle.tree.specs.Promise.{count_of, node_at, Inside, is_some, same_node, comparison_of, comparison, All}
-use Rattle.tree.specs.declared.Comparison.{Comparison}
+use Rattle.tree.specs.Promise.{count_of, node_at, Inside, is_some, same_node, comparison, All}
+use Rattle.tree.specs.declared.NotATree.{NotATree}
 use Rattle.tree.proofs.Trees.{grown-first, grown_of, build-whole, build_broken, none-some, standing}
 use Rattle.tree.proofs.Standing.{all-inside}
 
@@ -180,23 +181,23 @@ inside {root} {ws} {ts} i t h =
 
 -- ------------------------------------------------------------------ two trees
 
-abbrev pub comparing : (lw lt rw' rt : List ℕ) → Comparison
+abbrev pub comparing : (lw lt rw' rt : List ℕ) → Result Bool NotATree
 comparing lw lt rw' rt = comparison (build is_expression lw lt) (build is_expression rw' rt)
 
 module _ {lw lt : List ℕ} (t : Tree is_expression lw lt) where
-  pub other_not : (rw' rt : List ℕ) → build is_expression rw' rt ≡ none → Comparison.NotATree ≡ comparing lw lt rw' rt
+  pub other_not : (rw' rt : List ℕ) → build is_expression rw' rt ≡ none → Err (record {}) ≡ comparing lw lt rw' rt
   other_not rw' rt e = rw (t.is, e)
 
   module _ {rw' rt : List ℕ} (u : Tree is_expression rw' rt) where
-    compared : comparing lw lt rw' rt ≡ comparison_of (same_nodes (nodes t.top) (nodes u.top))
-    compared = rw (t.is, u.is) (ap comparison_of (same_nodes_lem t.top u.top))
+    compared : comparing lw lt rw' rt ≡ Ok (same_nodes (nodes t.top) (nodes u.top))
+    compared = rw (t.is, u.is) (ap (λ (b : Bool). Ok b) (same_nodes_lem t.top u.top))
 
-    pub unequal : (length lw ≡ length rw' → ⊥) → Comparison.Different ≡ comparing lw lt rw' rt
+    pub unequal : (length lw ≡ length rw' → ⊥) → Ok false ≡ comparing lw lt rw' rt
     unequal h =
-        sym (compared ∙ ap comparison_of (lengths_differ (nodes t.top) (nodes u.top) (λ e. h (t.whole ∙ ap (λ (n : ℕ). n * width) e ∙ sym u.whole))))
+        sym (compared ∙ ap (λ (b : Bool). Ok b) (lengths_differ (nodes t.top) (nodes u.top) (λ e. h (t.whole ∙ ap (λ (n : ℕ). n * width) e ∙ sym u.whole))))
 
-    pub by-records : (n : ℕ) → n ≡ count_of lw → length lw ≡ length rw' → comparing lw lt rw' rt ≡ comparison_of (same_from lw lt rw' rt 0 n)
+    pub by-records : (n : ℕ) → n ≡ count_of lw → length lw ≡ length rw' → comparing lw lt rw' rt ≡ Ok (same_from lw lt rw' rt 0 n)
     by-records n e h =
         let a = t.whole in
         let b = u.whole in
-        compared ∙ ap comparison_of (same_from_lem lw lt rw' rt (nodes t.top) (nodes u.top) 0 n t.all u.all (omega arith) (omega arith))
+        compared ∙ ap (λ (b : Bool). Ok b) (same_from_lem lw lt rw' rt (nodes t.top) (nodes u.top) 0 n t.all u.all (omega arith) (omega arith))

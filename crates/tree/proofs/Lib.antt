@@ -1,4 +1,5 @@
-pub mod Numbers
+pub mod KindRules
+pub mod Names
 pub mod Back
 pub mod Matching
 pub mod Trees

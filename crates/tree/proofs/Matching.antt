@@ -3,27 +3,20 @@
 use Prim.Native.Nat.{ℕ, zero, suc, ◌+◌, ◌-◌, ◌≤◌, ◌<◌}
 use native.Mathlib.Omega.{arith}
 use native.Mathlib.Numerals.{add-one}
-use mathlib.Core.Path.{◌≡◌, refl, ap, sym, ◌∙◌}
-use mathlib.Core.Bool.{Bool, true, false}
-use mathlib.Core.List.{List, [], ◌∷◌}
+use mathlib.Core.Path.{◌≡◌, refl, sym}
+use mathlib.Core.Bool.{true, false}
+use mathlib.Core.List.{List, [], ◌∷◌, map}
 use lib.Dec.{eqb}
-use lib.ListN.{length, drop, get_or}
+use lib.ListN.{length, drop, get_or, drop_of_length-le}
 use lib.Seq.{drop-cons}
-use borrow.Author.Tests.{ne_eqb, lt-ltb, le-ltb}
+use borrow.Author.Tests.{ne_eqb}
 use Rattle.basics.specs.Basics.{among}
 use Rattle.basics.proofs.Tests.{impossible}
 use Rattle.tree.specs.OneTree.{Group, many, one, at_most_one, without, begins, matches}
-use Rattle.tree.specs.Promise.{first_place, kind_before, kinds_back, kinds_of, group_of, groups_in}
-
--- ------------------------------------------------------------------ groups
-
-pub groups-end : (ns : List ℕ) (g : ℕ) → g < length ns → get_or ns g 0 ≡ 0 → groups_in (drop g ns) ≡ []
-unfolding groups_in
-groups-end ns g h e = rw (drop-cons ns g 0 h, e)
-
-groups-next : (ns : List ℕ) (g : ℕ) → g < length ns → (get_or ns g 0 ≡ 0 → ⊥) → groups_in (drop g ns) ≡ group_of (get_or ns g 0) ∷ groups_in (drop (g + 1) ns)
-unfolding groups_in
-groups-next ns g h e = rw (add-one, drop-cons ns g 0 h, ne_eqb (get_or ns g 0) 0 e)
+use Rattle.tree.specs.Promise.{first_place, kind_before, kinds_back, kinds_of, group_of}
+use Rattle.tree.specs.declared.Kinds.{Kinds}
+use Rattle.tree.specs.declared.Group.{Group as DeclaredGroup}
+use Rattle.tree.specs.declared.Group.TheVariants as Groups
 
 -- ------------------------------------------------------------------ children
 
@@ -37,6 +30,11 @@ unfolding kinds_back
 some_begin ks ws j zero e = absurd (e refl)
 some_begin ks ws j (suc n) e = refl
 
+pub none_begins : (ks ws : List ℕ) (j n : ℕ) → among ks (kind_before ws j) ≡ false → false ≡ begins ks (kinds_back ws j n)
+unfolding kinds_back
+none_begins ks ws j zero e = refl
+none_begins ks ws j (suc n) e = sym e
+
 pub begun : (ks ws : List ℕ) (j n : ℕ) → begins ks (kinds_back ws j n) ≡ true → 0 < n
 unfolding kinds_back
 begun ks ws j zero e = impossible (cc)
@@ -48,7 +46,7 @@ all-matched ws j zero = refl
 all-matched ws j (suc n) = sym (ne_eqb (suc n) 0 (λ e. omega arith))
 
 -- the rest of the children, where the branch before the last begins at i
-rest : (ws : List ℕ) (i j n : ℕ) → 0 < n → (0 < n - 1 → i ≡ first_place ws j 1) → drop 1 (kinds_back ws j n) ≡ kinds_back ws i (n - 1)
+pub rest : (ws : List ℕ) (i j n : ℕ) → 0 < n → (0 < n - 1 → i ≡ first_place ws j 1) → drop 1 (kinds_back ws j n) ≡ kinds_back ws i (n - 1)
 unfolding kinds_back
 rest ws i j zero h e = absurd (omega arith)
 rest ws i j (suc zero) h e = refl
@@ -59,7 +57,21 @@ rest ws i j (suc (suc n)) h e =
 
 -- ------------------------------------------------------------------ the first group
 
+pub without_yes : (ks cs : List ℕ) → begins ks cs ≡ true → without ks cs ≡ without ks (drop 1 cs)
+unfolding without
+without_yes ks [] e = impossible (cc)
+without_yes ks (c ∷ cs) e = rw (e, without)
+
+pub without_no : (ks cs : List ℕ) → begins ks cs ≡ false → without ks cs ≡ cs
+unfolding without
+without_no ks [] e = refl
+without_no ks (c ∷ cs) e = rw (e, without)
+
 module _ (ks : List ℕ) (gs : List Group) where
+  pub many_all : (cs : List ℕ) → matches (many ks ∷ gs) cs ≡ matches gs (without ks cs)
+  unfolding matches
+  many_all cs = refl
+
   pub many_yes : (cs : List ℕ) → begins ks cs ≡ true → matches (many ks ∷ gs) cs ≡ matches (many ks ∷ gs) (drop 1 cs)
   unfolding matches without
   many_yes [] e = impossible (cc)
@@ -74,7 +86,7 @@ module _ (ks : List ℕ) (gs : List Group) where
   unfolding matches
   one_yes cs e = rw e
 
-  one_no : (cs : List ℕ) → begins ks cs ≡ false → matches (one ks ∷ gs) cs ≡ false
+  pub one_no : (cs : List ℕ) → begins ks cs ≡ false → matches (one ks ∷ gs) cs ≡ false
   unfolding matches
   one_no cs e = rw e
 
@@ -88,57 +100,26 @@ module _ (ks : List ℕ) (gs : List Group) where
 
 -- ------------------------------------------------------------------ as the code goes on
 
--- the groups from g on match the last n branches before j
-abbrev pub left_over : (ns ws : List ℕ) (g j n : ℕ) → Bool
-left_over ns ws g j n = matches (groups_in (drop g ns)) (kinds_back ws j n)
+-- with the group i of the code, all groups from there on match some children, if those after it match the children that are left
+module _ (gs : List DeclaredGroup) (i : ℕ) (d : DeclaredGroup) (h : i < length gs) where
+  next_group : {g : DeclaredGroup} → get_or gs i d ≡ g → map group_of (drop i gs) ≡ group_of g ∷ map group_of (drop (i + 1) gs)
+  next_group e = rw (add-one, drop-cons gs i d h, e)
 
-module _ (ns ws : List ℕ) (g i j n : ℕ) (h : g < length ns) (nz : get_or ns g 0 ≡ 0 → ⊥) where
-  is-many : get_or ns g 0 < 64 → groups_in (drop g ns) ≡ many (kinds_of (get_or ns g 0)) ∷ groups_in (drop (g + 1) ns)
-  is-many l = rw (groups-next ns g h nz, lt-ltb (get_or ns g 0) 64 l)
+  module _ (ks : Kinds) (cs : List ℕ) where
+    pub each_left : get_or gs i d ≡ Groups.Each ks → matches (map group_of (drop (i + 1) gs)) (without (kinds_of ks) cs) ≡ matches (map group_of (drop i gs)) cs
+    each_left e = rw (next_group e) (sym (many_all (kinds_of ks) (map group_of (drop (i + 1) gs)) cs))
 
-  is_one : 64 ≤ get_or ns g 0 → get_or ns g 0 < 128 → groups_in (drop g ns) ≡ one (kinds_of (get_or ns g 0 - 64)) ∷ groups_in (drop (g + 1) ns)
-  is_one k l = rw (groups-next ns g h nz, le-ltb (get_or ns g 0) 64 k, lt-ltb (get_or ns g 0) 128 l)
+    pub one_left : get_or gs i d ≡ Groups.One ks → begins (kinds_of ks) cs ≡ true → matches (map group_of (drop (i + 1) gs)) (drop 1 cs) ≡ matches (map group_of (drop i gs)) cs
+    one_left e b = rw (next_group e) (sym (one_yes (kinds_of ks) (map group_of (drop (i + 1) gs)) cs b))
 
-  is-most : 64 ≤ get_or ns g 0 → 128 ≤ get_or ns g 0 → groups_in (drop g ns) ≡ at_most_one (kinds_of (get_or ns g 0 - 128)) ∷ groups_in (drop (g + 1) ns)
-  is-most k l = rw (groups-next ns g h nz, le-ltb (get_or ns g 0) 64 k, le-ltb (get_or ns g 0) 128 l)
+    pub one_missing : get_or gs i d ≡ Groups.One ks → begins (kinds_of ks) cs ≡ false → false ≡ matches (map group_of (drop i gs)) cs
+    one_missing e b = rw (next_group e) (sym (one_no (kinds_of ks) (map group_of (drop (i + 1) gs)) cs b))
 
-  module _ (l : get_or ns g 0 < 64) where
-    pub many-child : begins (kinds_of (get_or ns g 0)) (kinds_back ws j n) ≡ true → (0 < n - 1 → i ≡ first_place ws j 1) → left_over ns ws g j n ≡ left_over ns ws g i (n - 1)
-    many-child e f =
-        ap (λ (gs : List Group). matches gs (kinds_back ws j n)) (is-many l) ∙ many_yes (kinds_of (get_or ns g 0)) (groups_in (drop (g + 1) ns)) (kinds_back ws j n) e
-        ∙ ap (matches (many (kinds_of (get_or ns g 0)) ∷ groups_in (drop (g + 1) ns))) (rest ws i j n (begun (kinds_of (get_or ns g 0)) ws j n e) f)
-        ∙ ap (λ (gs : List Group). matches gs (kinds_back ws i (n - 1))) (sym (is-many l))
+    pub most_left : get_or gs i d ≡ Groups.AtMostOne ks → begins (kinds_of ks) cs ≡ true → matches (map group_of (drop (i + 1) gs)) (drop 1 cs) ≡ matches (map group_of (drop i gs)) cs
+    most_left e b = rw (next_group e) (sym (most_yes (kinds_of ks) (map group_of (drop (i + 1) gs)) cs b))
 
-    pub many-over : begins (kinds_of (get_or ns g 0)) (kinds_back ws j n) ≡ false → left_over ns ws g j n ≡ left_over ns ws (g + 1) j n
-    many-over e = rw (is-many l) (many_no (kinds_of (get_or ns g 0)) (groups_in (drop (g + 1) ns)) (kinds_back ws j n) e)
+    pub most_missing : get_or gs i d ≡ Groups.AtMostOne ks → begins (kinds_of ks) cs ≡ false → matches (map group_of (drop (i + 1) gs)) cs ≡ matches (map group_of (drop i gs)) cs
+    most_missing e b = rw (next_group e) (sym (most_no (kinds_of ks) (map group_of (drop (i + 1) gs)) cs b))
 
-  module _ (k : 64 ≤ get_or ns g 0) (l : get_or ns g 0 < 128) where
-    pub one-child : begins (kinds_of (get_or ns g 0 - 64)) (kinds_back ws j n) ≡ true → (0 < n - 1 → i ≡ first_place ws j 1) → left_over ns ws g j n ≡ left_over ns ws (g + 1) i (n - 1)
-    one-child e f =
-        rw (is_one k l) (one_yes (kinds_of (get_or ns g 0 - 64)) (groups_in (drop (g + 1) ns)) (kinds_back ws j n) e
-        ∙ ap (matches (groups_in (drop (g + 1) ns))) (rest ws i j n (begun (kinds_of (get_or ns g 0 - 64)) ws j n e) f))
-
-    pub one_missing : begins (kinds_of (get_or ns g 0 - 64)) (kinds_back ws j n) ≡ false → left_over ns ws g j n ≡ false
-    one_missing e = rw (is_one k l) (one_no (kinds_of (get_or ns g 0 - 64)) (groups_in (drop (g + 1) ns)) (kinds_back ws j n) e)
-
-  module _ (k : 64 ≤ get_or ns g 0) (l : 128 ≤ get_or ns g 0) where
-    pub most-child : begins (kinds_of (get_or ns g 0 - 128)) (kinds_back ws j n) ≡ true → (0 < n - 1 → i ≡ first_place ws j 1) → left_over ns ws g j n ≡ left_over ns ws (g + 1) i (n - 1)
-    most-child e f =
-        rw (is-most k l) (most_yes (kinds_of (get_or ns g 0 - 128)) (groups_in (drop (g + 1) ns)) (kinds_back ws j n) e
-        ∙ ap (matches (groups_in (drop (g + 1) ns))) (rest ws i j n (begun (kinds_of (get_or ns g 0 - 128)) ws j n e) f))
-
-    pub most-over : begins (kinds_of (get_or ns g 0 - 128)) (kinds_back ws j n) ≡ false → left_over ns ws g j n ≡ left_over ns ws (g + 1) j n
-    most-over e = rw (is-most k l) (most_no (kinds_of (get_or ns g 0 - 128)) (groups_in (drop (g + 1) ns)) (kinds_back ws j n) e)
-
-pub groups-over : (ns : List ℕ) (g : ℕ) → length ns ≤ g → groups_in (drop g ns) ≡ []
-unfolding groups_in
-groups-over [] zero h = refl
-groups-over [] (suc g) h = refl
-groups-over (n ∷ ns) zero h = absurd (omega arith)
-groups-over (n ∷ ns) (suc g) h = groups-over ns g (omega arith)
-
-pub over-end : (ns ws : List ℕ) (g j n : ℕ) → g < length ns → get_or ns g 0 ≡ 0 → eqb n 0 ≡ left_over ns ws g j n
-over-end ns ws g j n h e = sym (rw (groups-end ns g h e) (all-matched ws j n))
-
-pub over-all : (ns ws : List ℕ) (g j n : ℕ) → length ns ≤ g → eqb n 0 ≡ left_over ns ws g j n
-over-all ns ws g j n h = sym (rw (groups-over ns g h) (all-matched ws j n))
+pub none-left : (gs : List DeclaredGroup) (i : ℕ) → length gs ≤ i → (ws : List ℕ) (j n : ℕ) → eqb n 0 ≡ matches (map group_of (drop i gs)) (kinds_back ws j n)
+none-left gs i h ws j n = let e : drop i gs ≡ [] = drop_of_length-le gs {i = i} h in rw e (sym (all-matched ws j n))

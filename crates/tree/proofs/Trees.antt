@@ -8,12 +8,12 @@ use mathlib.Core.List.{List, [], ◌∷◌, ◌++◌, map}
 use mathlib.Core.Option.{Option, none, some}
 use lib.Dec.{eqb, leb}
 use lib.ListN.{length, take, length-append}
-use borrow.Author.Tests.{eqb-true, leb-true, leb-false, le-leb, lt-leb}
+use borrow.Author.Tests.{eqb-true, eqb-false, leb-true, leb-false, le-leb, lt-leb}
 use Rattle.basics.proofs.Tests.{cases, both_true, impossible}
 use Rattle.tree.specs.Records.{Row, Branch, nodes, Record, width}
 use Rattle.tree.specs.OneTree.{kind_of, row_of, has_text, is_kind, values_fit, children_fit, text_fits, record_fits, only, build_from, records_in, build_by, rooted, build}
 use Rattle.tree.specs.Promise.{word_at, record_at, node_at, kind_before, kinds_back, is_some, All}
-use Rattle.tree.proofs.Back.{all_append, all_one, flat, over, flat-over, length_over, kinds-back, kind-top, kind-some, nodes-some}
+use Rattle.tree.proofs.Back.{all_append, all_one, flat, over, flat-over, length_over, kinds-back, kind-top, nodes-some}
 
 -- ------------------------------------------------------------------ records in words
 
@@ -143,8 +143,16 @@ module _ (ws ts : List ℕ) (i at : ℕ) where
     enough : word_at ws i 6 ≤ depth → leb (word_at ws i 6) (length g.stack) ≡ true
     enough h = let d = g.deep in le-leb (word_at ws i 6) (length g.stack) (omega arith)
 
-    pub misfit : word_at ws i 6 ≤ depth → record_fits (length ts) at (record_at ws i) (kinds_back ws i (word_at ws i 6)) ≡ false → o ≡ none
-    misfit h e = sym left-of ∙ step_no m g.stack (rw (enough h, ← kinds h) e)
+    pub misfit : record_fits (length ts) at (record_at ws i) (kinds_back ws i (word_at ws i 6)) ≡ false → o ≡ none
+    misfit e =
+        cases (leb (word_at ws i 6) depth)
+        (λ t. let h = leb-true (word_at ws i 6) depth t in sym left-of ∙ step_no m g.stack (rw (enough h, ← kinds h) e))
+        (λ t. too_few (leb-false (word_at ws i 6) depth t))
+
+    -- a number that is no kind's is no record
+    pub kindless : is_kind (word_at ws i 0) ≡ false → o ≡ none
+    unfolding record_fits
+    kindless e = misfit (rw e)
 
     pub grow : word_at ws i 6 ≤ depth → record_fits (length ts) at (record_at ws i) (kinds_back ws i (word_at ws i 6)) ≡ true → at ≤ length ts
         → Grown ws ts m (i + 1) (depth - word_at ws i 6 + 1) (at + word_at ws i 3) o
@@ -211,14 +219,15 @@ module _ (ws ts : List ℕ) (b : Branch) where
       (λ e. let s = standing n (i + 1) (depth - word_at ws i 6 + 1) (at + word_at ws i 3) (grow ws ts i at (suc n) n refl g (leb-true (word_at ws i 6) depth d) e h)
       (record_inside (length ts) at (record_at ws i) (kinds_back ws i (word_at ws i 6)) e h).1 in
       (s.0, omega arith))
-      (λ e. none-some (sym (misfit ws ts i at (suc n) n refl g (leb-true (word_at ws i 6) depth d) e))))
+      (λ e. none-some (sym (misfit ws ts i at (suc n) n refl g e))))
       (λ d. none-some (sym (too_few ws ts i at (suc n) n refl g (leb-false (word_at ws i 6) depth d))))
 
 pub no-tree : (root : ℕ → Bool) (ws ts : List ℕ) (n : ℕ) → length ws ≡ n * width → grown_of ws ts n ≡ none → false ≡ is_some (build root ws ts)
 no-tree root ws ts n h e = sym (ap is_some (build-whole root ws ts n h ∙ ap (rooted root) e))
 
-pub rooted-last : (root : ℕ → Bool) (ws ts : List ℕ) (n : ℕ) → length ws ≡ n * width → {i depth at : ℕ} (m : ℕ) → m ≡ 0 → i ≡ n → Grown ws ts m i depth at (grown_of ws ts n)
-    → depth ≡ 1 → root (word_at ws (n - 1) 0) ≡ is_some (build root ws ts)
-rooted-last root ws ts n h {i} m q e g d =
-    let f = grown-few g in
-    ap root (kind-some ws n (λ z. omega arith) ∙ ap (kind_before ws) (sym e)) ∙ sym (one_left ws ts m q g root d) ∙ sym (ap is_some (build-whole root ws ts n h))
+pub ended : (root : ℕ → Bool) (ws ts : List ℕ) (n : ℕ) → length ws ≡ n * width → {i depth at : ℕ} (m : ℕ) → m ≡ 0 → i ≡ n → Grown ws ts m i depth at (grown_of ws ts n)
+    → (eqb depth 1 && root (kind_before ws n)) ≡ is_some (build root ws ts)
+ended root ws ts n h {depth = depth} m q e g =
+    cases (eqb depth 1)
+    (λ t. rw t (ap (λ (k : ℕ). root (kind_before ws k)) (sym e) ∙ sym (one_left ws ts m q g root (eqb-true depth 1 t)) ∙ sym (ap is_some (build-whole root ws ts n h))))
+    (λ t. rw t (no-tree root ws ts n h (more_left ws ts m q g (eqb-false depth 1 t))))

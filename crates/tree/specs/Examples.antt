@@ -1,13 +1,12 @@
 -- Words that are one tree and words that just are not, trees that are equal and trees that just are not: a table, and one theorem that
 -- none of its lines is wrong.
 -- Assumes nothing.
-use Rattle.std.specs.Prelude.{ℕ, suc, ◌≡◌, refl, Bool, true, false, not, List, [], ◌∷◌, ◌++◌}
+use Rattle.std.specs.Prelude.{ℕ, suc, ◌≡◌, refl, Bool, true, false, not, List, [], ◌∷◌, ◌++◌, Result, Ok, Err}
 use Rattle.basics.specs.Basics.{letters}
 use Rattle.tree.specs.OneTree.{is_expression, build}
 use Rattle.tree.specs.Equality.{structurally_eq}
 use Rattle.tree.specs.Promise.{is_some, comparison}
-use Rattle.tree.specs.declared.Comparison.{Comparison}
-use Rattle.tree.specs.declared.Comparison.TheVariants.{Equal, Different, NotATree}
+use Rattle.tree.specs.declared.NotATree.{NotATree}
 
 -- what is claimed of words and texts, the root an expression
 pub data Claim : Type 0 where
@@ -17,19 +16,17 @@ pub data Claim : Type 0 where
   different : (texts left right : List ℕ) → Claim
 
 -- two trees are equal
-abbrev is_equal : Comparison → Bool
-is_equal Equal = true
-is_equal Different = false
-is_equal NotATree = false
+abbrev is_equal : Result Bool NotATree → Bool
+is_equal (Ok b) = b
+is_equal (Err e) = false
 
 -- two trees are not equal
-abbrev is_different : Comparison → Bool
-is_different Equal = false
-is_different Different = true
-is_different NotATree = false
+abbrev is_different : Result Bool NotATree → Bool
+is_different (Ok b) = not b
+is_different (Err e) = false
 
 -- two expressions over the same texts
-abbrev compared : (texts left right : List ℕ) → Comparison
+abbrev compared : (texts left right : List ℕ) → Result Bool NotATree
 compared ts l r = comparison (build is_expression l ts) (build is_expression r ts)
 
 -- the definitions bear the claim out

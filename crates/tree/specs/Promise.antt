@@ -1,11 +1,12 @@
 -- What the values of the code stand for, and what its functions promise of the words they are lent.
 -- Assumes nothing.
-use Rattle.std.specs.Prelude.{ℕ, zero, suc, ◌+◌, ◌-◌, ◌*◌, ◌/◌, ◌≤◌, ◌<◌, ◌≡◌, Bool, true, false, ◌&&◌, List, [], ◌∷◌, eqb, ltb, length, get_or}
+use Rattle.std.specs.Prelude.{ℕ, zero, suc, ◌+◌, ◌*◌, ◌/◌, ◌≤◌, ◌<◌, ◌≡◌, Bool, true, false, ◌&&◌, List, [], ◌∷◌, eqb, length, get_or, Result, Ok, Err, MatchResult, MatchOption}
+use Rattle.std.specs.Prelude.{Option as Optional, Some, None}
 use Rattle.std.proofs.Math.Option.{Option, none, some}
-use Rattle.basics.specs.Basics.{if◌then◌otherwise◌}
+use Rattle.characters.specs.Spans.{Span, ◌upto◌}
 use Rattle.tree.specs.Syntax.{CharClass, ascii_letter, ascii_lowercase, ascii_uppercase, digit, whitespace, eof, RepeatKind, optional, zero_or_more, one_or_more, SpecializeKind, extend, specialize, ConflictMarkerKind, ambiguity, precedence, PrecKind, left, right, cut}
 use Rattle.tree.specs.Records.{Branch, Node, Record, width}
-use Rattle.tree.specs.OneTree.{expression_kinds, is_expression, Group, many, one, at_most_one, row_of}
+use Rattle.tree.specs.OneTree.{is_kind, expression_kinds, is_expression, Group, many, one, at_most_one, row_of}
 use Rattle.tree.specs.Equality.{same_row, structurally_eq}
 use Rattle.tree.specs.declared.CharClass.{CharClass as DeclaredClass}
 use Rattle.tree.specs.declared.CharClass.TheVariants as CharClasss
@@ -19,9 +20,64 @@ use Rattle.tree.specs.declared.PrecKind.{PrecKind as DeclaredPrec}
 use Rattle.tree.specs.declared.PrecKind.TheVariants as PrecKinds
 use Rattle.tree.specs.declared.Record as declared
 use Rattle.tree.specs.declared.Root.{Root}
-use Rattle.tree.specs.declared.Comparison.{Comparison}
+use Rattle.tree.specs.declared.NotATree.{NotATree}
+use Rattle.tree.specs.declared.NodeKind.{NodeKind}
+use Rattle.tree.specs.declared.NotAKind.{NotAKind}
+use Rattle.tree.specs.declared.Kinds.{Kinds}
+use Rattle.tree.specs.declared.Group.{Group as DeclaredGroup}
+use Rattle.tree.specs.declared.Group.TheVariants as Groups
 
 -- ------------------------------------------------------------------ kinds
+
+-- the number that the words have for a kind of the code
+abbrev pub kind_number : NodeKind → ℕ
+kind_number NodeKind.Grammar = 1
+kind_number NodeKind.TopRule = 2
+kind_number NodeKind.Rule = 3
+kind_number NodeKind.Param = 4
+kind_number NodeKind.Prop = 5
+kind_number NodeKind.PartText = 6
+kind_number NodeKind.PartName = 7
+kind_number NodeKind.Tokens = 8
+kind_number NodeKind.TokenPrecedence = 9
+kind_number NodeKind.TokenConflict = 10
+kind_number NodeKind.TokenLiteral = 11
+kind_number NodeKind.LocalTokens = 12
+kind_number NodeKind.NamedNode = 13
+kind_number NodeKind.Context = 14
+kind_number NodeKind.Source = 15
+kind_number NodeKind.ExternalTokens = 16
+kind_number NodeKind.ConflictName = 17
+kind_number NodeKind.ExternalSpecializer = 18
+kind_number NodeKind.PropSource = 19
+kind_number NodeKind.Precedences = 20
+kind_number NodeKind.PrecedenceItem = 21
+kind_number NodeKind.MainSkip = 22
+kind_number NodeKind.ScopedSkip = 23
+kind_number NodeKind.Dialect = 24
+kind_number NodeKind.ExternalProp = 25
+kind_number NodeKind.ExternalName = 26
+kind_number NodeKind.Name = 30
+kind_number NodeKind.Specialize = 31
+kind_number NodeKind.InlineRule = 32
+kind_number NodeKind.Choice = 33
+kind_number NodeKind.Sequence = 34
+kind_number NodeKind.Repeat = 35
+kind_number NodeKind.Literal = 36
+kind_number NodeKind.Set = 37
+kind_number NodeKind.Span = 38
+kind_number NodeKind.Any = 39
+kind_number NodeKind.Class = 40
+kind_number NodeKind.AmbiguityMarker = 41
+kind_number NodeKind.PrecedenceMarker = 42
+
+-- the kind that has a number, or none has it
+abbrev pub IsKindOf : ℕ → Result NodeKind NotAKind → Type 0
+IsKindOf k r = MatchResult r (λ kind. kind_number kind ≡ k) (λ e. is_kind k ≡ false)
+
+-- the same where there may be none
+abbrev pub IsKind : ℕ → Optional NodeKind → Type 0
+IsKind k r = MatchOption r (is_kind k ≡ false) (λ kind. kind_number kind ≡ k)
 
 -- a class of the code
 abbrev pub class_of : DeclaredClass → CharClass
@@ -31,6 +87,11 @@ class_of CharClasss.AsciiUppercase = ascii_uppercase
 class_of CharClasss.Digit = digit
 class_of CharClasss.Whitespace = whitespace
 class_of CharClasss.Eof = eof
+
+-- the same where there may be none
+abbrev pub class_in : Optional DeclaredClass → Option CharClass
+class_in None = none
+class_in (Some k) = some (class_of k)
 
 -- a repeat of the code
 abbrev pub repeat_of : DeclaredRepeat → RepeatKind
@@ -48,12 +109,16 @@ abbrev pub marker_of : DeclaredMarker → ConflictMarkerKind
 marker_of ConflictMarkerKinds.Ambiguity = ambiguity
 marker_of ConflictMarkerKinds.Precedence = precedence
 
--- how an item of the code associates, if it does
-abbrev pub prec_of : DeclaredPrec → Option PrecKind
-prec_of PrecKinds.Missing = none
-prec_of PrecKinds.Left = some left
-prec_of PrecKinds.Right = some right
-prec_of PrecKinds.Cut = some cut
+-- how an item of the code associates
+abbrev pub prec_of : DeclaredPrec → PrecKind
+prec_of PrecKinds.Left = left
+prec_of PrecKinds.Right = right
+prec_of PrecKinds.Cut = cut
+
+-- the same where there may be none
+abbrev pub prec_in : Optional DeclaredPrec → Option PrecKind
+prec_in None = none
+prec_in (Some k) = some (prec_of k)
 
 -- ------------------------------------------------------------------ records in words
 
@@ -61,7 +126,7 @@ prec_of PrecKinds.Cut = some cut
 abbrev pub record_of : declared.Record → Record
 record_of r =
     record {
-      kind = r.kind;
+      kind = kind_number r.kind;
       start = r.start;
       place = r.place;
       size = r.size;
@@ -69,6 +134,10 @@ record_of r =
       second = r.second;
       children = r.children;
     }
+
+-- a span of the code
+abbrev pub span_of : ℕ × ℕ → Span
+span_of s = s.0 upto s.1
 
 -- how many records the words have
 abbrev pub count_of : List ℕ → ℕ
@@ -116,6 +185,10 @@ unfoldable pub first_place : List ℕ → (end n : ℕ) → ℕ
 first_place ws zero n = 0
 first_place ws (suc end) n = elim n [ zero ↦ suc end | suc m ↦ first_place ws end (m + word_at ws end 6) ]
 
+-- the record i of the words in the code, if its number is a kind's
+abbrev pub IsRecord : Record → Optional declared.Record → Type 0
+IsRecord r o = MatchOption o (is_kind r.kind ≡ false) (λ d. record_of d ≡ r)
+
 -- the kind of the record before, or 0, which is no kind
 unfoldable pub kind_before : List ℕ → (end : ℕ) → ℕ
 kind_before ws zero = 0
@@ -128,26 +201,19 @@ kinds_back ws end (suc n) = kind_before ws end ∷ kinds_back ws (first_place ws
 
 -- ------------------------------------------------------------------ groups of children
 
--- the kinds that a number of the code stands for: one kind, or one of four lists
-abbrev pub kinds_of : ℕ → List ℕ
-kinds_of n =
-    if eqb n 50 then expression_kinds
-    otherwise if eqb n 51 then 41 ∷ 42 ∷ expression_kinds
-    otherwise if eqb n 52 then 30 ∷ 36 ∷ []
-    otherwise if eqb n 53 then 6 ∷ 7 ∷ []
-    otherwise n ∷ []
+-- kinds of the code
+abbrev pub kinds_of : Kinds → List ℕ
+kinds_of (Kinds.Of k) = kind_number k ∷ []
+kinds_of Kinds.Expressions = expression_kinds
+kinds_of Kinds.Slots = 41 ∷ 42 ∷ expression_kinds
+kinds_of Kinds.References = 30 ∷ 36 ∷ []
+kinds_of Kinds.Parts = 6 ∷ 7 ∷ []
 
--- a group, by the number of its kinds: as many as there are, 64 more for just one, 128 more for at most one
-abbrev pub group_of : ℕ → Group
-group_of n =
-    if ltb n 64 then many (kinds_of n)
-    otherwise if ltb n 128 then one (kinds_of (n - 64))
-    otherwise at_most_one (kinds_of (n - 128))
-
--- groups up to a 0
-unfoldable pub groups_in : List ℕ → List Group
-groups_in [] = []
-groups_in (n ∷ ns) = if eqb n 0 then [] otherwise group_of n ∷ groups_in ns
+-- a group of the code
+abbrev pub group_of : DeclaredGroup → Group
+group_of (Groups.Each ks) = many (kinds_of ks)
+group_of (Groups.One ks) = one (kinds_of ks)
+group_of (Groups.AtMostOne ks) = at_most_one (kinds_of ks)
 
 -- ------------------------------------------------------------------ one tree
 
@@ -167,13 +233,8 @@ is_some (some b) = true
 unfoldable pub same_node : Node → Node → Bool
 same_node x y = same_row x.row y.row && eqb x.children y.children
 
--- the answer for two trees, by whether they are equal
-abbrev pub comparison_of : Bool → Comparison
-comparison_of true = Comparison.Equal
-comparison_of false = Comparison.Different
-
 -- the answer for two trees, if both are trees
-abbrev pub comparison : Option Branch → Option Branch → Comparison
-comparison (some b) (some c) = comparison_of (structurally_eq b c)
-comparison (some b) none = Comparison.NotATree
-comparison none c = Comparison.NotATree
+abbrev pub comparison : Option Branch → Option Branch → Result Bool NotATree
+comparison (some b) (some c) = Ok (structurally_eq b c)
+comparison (some b) none = Err (record {})
+comparison none c = Err (record {})

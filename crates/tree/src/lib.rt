@@ -3,19 +3,22 @@
 // recursion: a branch is passed by counting back over its records.
 #![tactic(auto)]
 
-ghost use Rattle.std.specs.Prelude.{◌≡◌, ◌+◌, ◌-◌, ◌*◌, ◌≤◌, ◌<◌, [], ◌∷◌, reverse, length, take, eqb, ◌||◌};
-ghost use Rattle.basics.specs.Basics.{among, same, within};
-ghost use Rattle.characters.specs.Promise.{written, flat};
+ghost use Rattle.std.specs.Prelude.{◌≡◌, ◌+◌, ◌-◌, ◌≤◌, ◌<◌, map, reverse, length, drop};
+ghost use Rattle.basics.specs.Basics.{among, same};
+ghost use Rattle.characters.specs.Promise.{written};
+ghost use Rattle.characters.specs.Utf8.{codes, encode_all};
 ghost use Rattle.tree.specs.Records.{width, words_of};
-ghost use Rattle.tree.specs.CharClasses.{ranges, class_value};
+ghost use Rattle.tree.specs.CharClasses.{ranges, class_value, from_name};
 ghost use Rattle.tree.specs.Stored.{repeat_value, specialize_value, marker_number, prec_value};
-ghost use Rattle.tree.specs.OneTree.{is_kind, is_expression, has_text, values_fit, groups_of, text_fits, begins as begins_with, children_fit, record_fits, build};
-ghost use Rattle.tree.specs.Promise.{class_of, repeat_of, specialize_of, marker_of, prec_of, record_of, count_of, word_at, record_at, node_at, Inside, first_place, kind_before, kinds_back, kinds_of, groups_in, root_of, is_some, same_node, comparison};
+ghost use Rattle.tree.specs.OneTree.{is_expression, has_text, value_fits, values_fit, groups_of, text_fits, begins, without, children_fit, record_fits, build};
+ghost use Rattle.tree.specs.Promise.{kind_number, IsKindOf, IsKind, class_of, class_in, repeat_of, specialize_of, marker_of, prec_in, record_of, IsRecord, span_of, count_of, word_at, record_at, node_at, Inside, first_place, kind_before, kinds_back, kinds_of, group_of, root_of, is_some, same_node, comparison};
 
 // How many words a record has, and which is which.
 const WIDTH: usize = 7;
 
 const KIND: usize = 0;
+
+const START: usize = 1;
 
 const PLACE: usize = 2;
 
@@ -27,40 +30,186 @@ const SECOND: usize = 5;
 
 const CHILDREN: usize = 6;
 
-// A group of children is a number: that of their kind, or of one of these lists of kinds, for as many children as there are; so much more
-// for just one child, or for at most one.
-const EXPRESSIONS: u32 = 50;
+// The kinds of records, by the numbers that their words have.
+#[derive(Clone, Copy, Debug, PartialEq, Eq)]
+pub enum NodeKind {
+    Grammar = 1,
+    TopRule,
+    Rule,
+    Param,
+    Prop,
+    PartText,
+    PartName,
+    Tokens,
+    TokenPrecedence,
+    TokenConflict,
+    TokenLiteral,
+    LocalTokens,
+    NamedNode,
+    Context,
+    Source,
+    ExternalTokens,
+    ConflictName,
+    ExternalSpecializer,
+    PropSource,
+    Precedences,
+    PrecedenceItem,
+    MainSkip,
+    ScopedSkip,
+    Dialect,
+    ExternalProp,
+    ExternalName,
+    Name = 30,
+    Specialize,
+    InlineRule,
+    Choice,
+    Sequence,
+    Repeat,
+    Literal,
+    Set,
+    Span,
+    Any,
+    Class,
+    AmbiguityMarker,
+    PrecedenceMarker,
+}
 
-const SLOTS: u32 = 51;
+// A number that is no kind's.
+#[derive(Clone, Copy, Debug, PartialEq, Eq)]
+pub struct NotAKind;
 
-const REFERENCES: u32 = 52;
+impl TryFrom<u32> for NodeKind {
+    type Error = NotAKind;
 
-const PARTS: u32 = 53;
+    ghost try_from_gives = { IsKindOf };
 
-const ONE: u32 = 64;
+    fn try_from(number: u32) -> Result<NodeKind, NotAKind> {
+        match number {
+            1 => Ok(NodeKind::Grammar),
+            2 => Ok(NodeKind::TopRule),
+            3 => Ok(NodeKind::Rule),
+            4 => Ok(NodeKind::Param),
+            5 => Ok(NodeKind::Prop),
+            6 => Ok(NodeKind::PartText),
+            7 => Ok(NodeKind::PartName),
+            8 => Ok(NodeKind::Tokens),
+            9 => Ok(NodeKind::TokenPrecedence),
+            10 => Ok(NodeKind::TokenConflict),
+            11 => Ok(NodeKind::TokenLiteral),
+            12 => Ok(NodeKind::LocalTokens),
+            13 => Ok(NodeKind::NamedNode),
+            14 => Ok(NodeKind::Context),
+            15 => Ok(NodeKind::Source),
+            16 => Ok(NodeKind::ExternalTokens),
+            17 => Ok(NodeKind::ConflictName),
+            18 => Ok(NodeKind::ExternalSpecializer),
+            19 => Ok(NodeKind::PropSource),
+            20 => Ok(NodeKind::Precedences),
+            21 => Ok(NodeKind::PrecedenceItem),
+            22 => Ok(NodeKind::MainSkip),
+            23 => Ok(NodeKind::ScopedSkip),
+            24 => Ok(NodeKind::Dialect),
+            25 => Ok(NodeKind::ExternalProp),
+            26 => Ok(NodeKind::ExternalName),
+            30 => Ok(NodeKind::Name),
+            31 => Ok(NodeKind::Specialize),
+            32 => Ok(NodeKind::InlineRule),
+            33 => Ok(NodeKind::Choice),
+            34 => Ok(NodeKind::Sequence),
+            35 => Ok(NodeKind::Repeat),
+            36 => Ok(NodeKind::Literal),
+            37 => Ok(NodeKind::Set),
+            38 => Ok(NodeKind::Span),
+            39 => Ok(NodeKind::Any),
+            40 => Ok(NodeKind::Class),
+            41 => Ok(NodeKind::AmbiguityMarker),
+            42 => Ok(NodeKind::PrecedenceMarker),
+            _ => Err(NotAKind),
+        }
+    }
+}
 
-const AT_MOST_ONE: u32 = 128;
+impl NodeKind {
+    // The first word of a record of this kind.
+    pub fn number(self) -> u32
+        ensures { result ≡ kind_number self }
+    {
+        self as u32
+    }
 
-const ONE_EXPRESSION: u32 = 114;
+    pub fn is_expression(self) -> bool
+        ensures { result ≡ is_expression (kind_number self) }
+    {
+        match self {
+            NodeKind::Name
+            | NodeKind::Specialize
+            | NodeKind::InlineRule
+            | NodeKind::Choice
+            | NodeKind::Sequence
+            | NodeKind::Repeat
+            | NodeKind::Literal
+            | NodeKind::Set
+            | NodeKind::Any
+            | NodeKind::Class => true,
+            _ => false,
+        }
+    }
 
-const ONE_REFERENCE: u32 = 116;
+    fn has_text(self) -> bool
+        ensures { result ≡ has_text (kind_number self) }
+    {
+        match self {
+            NodeKind::Grammar
+            | NodeKind::Tokens
+            | NodeKind::TokenPrecedence
+            | NodeKind::TokenConflict
+            | NodeKind::LocalTokens
+            | NodeKind::Precedences
+            | NodeKind::MainSkip
+            | NodeKind::ScopedSkip
+            | NodeKind::Specialize
+            | NodeKind::Choice
+            | NodeKind::Sequence
+            | NodeKind::Repeat
+            | NodeKind::Set
+            | NodeKind::Span
+            | NodeKind::Any
+            | NodeKind::Class => false,
+            _ => true,
+        }
+    }
 
-const ONE_SOURCE: u32 = 79;
+    // The values of a kind, where the second word is 0.
+    fn value_fits(self, value: u32) -> bool
+        ensures { result ≡ value_fits (kind_number self) value }
+    {
+        match self {
+            NodeKind::Grammar | NodeKind::Prop | NodeKind::Sequence | NodeKind::Set => value <= 1,
+            NodeKind::ExternalSpecializer | NodeKind::Specialize => 1 <= value && value <= 2,
+            NodeKind::Repeat => value <= 2,
+            NodeKind::PrecedenceItem => value <= 3,
+            NodeKind::Class => value <= 5,
+            _ => value == 0,
+        }
+    }
 
-const ONE_NAME: u32 = 90;
+    // Value and second: those of a span are its first code and one past its last.
+    #[tactic(auto, unfolding(crate::specs::OneTree::values_fit))]
+    fn values_fit(self, value: u32, second: u32) -> bool
+        ensures { result ≡ values_fit (kind_number self) value second }
+    {
+        if self == NodeKind::Span {
+            return value < second && second <= 1114112;
+        }
+        self.value_fits(value) && second == 0
+    }
+}
 
-const AT_MOST_ONE_NODE: u32 = 141;
-
-// The ends of the spans of class whitespace.
-const WHITESPACE: [u32; 20] = [
-    9, 14, 32, 33, 133, 134, 160, 161, 5760, 5761, 8192, 8203, 8232, 8234, 8239, 8240, 8287, 8288,
-    12288, 12289,
-];
-
-// `CharClass`, `RepeatKind`, `SpecializeKind`, `ConflictMarkerKind` and `PrecKind` of node.rs; the last with no kind as a case.
-#[derive(Clone, Copy)]
+// `CharClass`, `RepeatKind`, `SpecializeKind`, `ConflictMarkerKind` and `PrecKind` of node.rs. Where they have numbers, these are the
+// values of their records.
+#[derive(Clone, Copy, Debug, PartialEq, Eq)]
 pub enum CharClass {
-    AsciiLetter,
+    AsciiLetter = 0,
     AsciiLowercase,
     AsciiUppercase,
     Digit,
@@ -68,44 +217,140 @@ pub enum CharClass {
     Eof,
 }
 
-#[derive(Clone, Copy)]
+#[derive(Clone, Copy, Debug, PartialEq, Eq)]
 pub enum RepeatKind {
-    Optional,
+    Optional = 0,
     ZeroOrMore,
     OneOrMore,
 }
 
-#[derive(Clone, Copy)]
+#[derive(Clone, Copy, Debug, PartialEq, Eq)]
 pub enum SpecializeKind {
-    Extend,
+    Extend = 1,
     Specialize,
 }
 
-#[derive(Clone, Copy)]
+#[derive(Clone, Copy, Debug, PartialEq, Eq)]
 pub enum ConflictMarkerKind {
     Ambiguity,
     Precedence,
 }
 
-#[derive(Clone, Copy)]
+#[derive(Clone, Copy, Debug, PartialEq, Eq)]
 pub enum PrecKind {
-    Missing,
-    Left,
+    Left = 1,
     Right,
     Cut,
 }
 
-// The ends of a class's spans: the first code and one past the last of each, `count` spans.
-#[derive(Clone, Copy)]
-pub struct Ranges {
-    pub ends: [u32; 20],
-    pub count: usize,
+impl CharClass {
+    // The class that a part of the source names.
+    pub fn from_name(name: &[u8]) -> Option<CharClass>
+        ensures bytes { class_in result ≡ from_name name.now }
+        ensures text { encode_all (codes name.now) ≡ name.now → class_in result ≡ from_name (codes name.now) }
+    {
+        if same_bytes(b"asciiLetter", name) {
+            return Some(CharClass::AsciiLetter);
+        }
+        if same_bytes(b"asciiLowercase", name) {
+            return Some(CharClass::AsciiLowercase);
+        }
+        if same_bytes(b"asciiUppercase", name) {
+            return Some(CharClass::AsciiUppercase);
+        }
+        if same_bytes(b"digit", name) {
+            return Some(CharClass::Digit);
+        }
+        if same_bytes(b"whitespace", name) {
+            return Some(CharClass::Whitespace);
+        }
+        if same_bytes(b"eof", name) {
+            return Some(CharClass::Eof);
+        }
+        None
+    }
+
+    // The spans of codes in the class: the first code of each, and one past its last.
+    #[tactic(auto, unfolding(crate::specs::CharClasses::ranges))]
+    pub fn ranges(self) -> &'static [(u32, u32)]
+        ensures { map span_of result.now ≡ ranges (class_of self) }
+    {
+        match self {
+            CharClass::AsciiLetter => &[(65, 91), (97, 123)],
+            CharClass::AsciiLowercase => &[(97, 123)],
+            CharClass::AsciiUppercase => &[(65, 91)],
+            CharClass::Digit => &[(48, 58)],
+            CharClass::Whitespace => &[
+                (9, 14),
+                (32, 33),
+                (133, 134),
+                (160, 161),
+                (5760, 5761),
+                (8192, 8203),
+                (8232, 8234),
+                (8239, 8240),
+                (8287, 8288),
+                (12288, 12289),
+            ],
+            CharClass::Eof => &[],
+        }
+    }
+
+    // The value of a class's record.
+    pub fn value(self) -> u32
+        ensures { result ≡ class_value (class_of self) }
+    {
+        self as u32
+    }
+}
+
+impl RepeatKind {
+    // The value of a repeat's record.
+    pub fn value(self) -> u32
+        ensures { result ≡ repeat_value (repeat_of self) }
+    {
+        self as u32
+    }
+}
+
+impl SpecializeKind {
+    // The value of a specialize's record, and of an external specializer's.
+    pub fn value(self) -> u32
+        ensures { result ≡ specialize_value (specialize_of self) }
+    {
+        self as u32
+    }
+}
+
+impl ConflictMarkerKind {
+    // The kind of a marker's record.
+    pub fn kind(self) -> NodeKind
+        ensures { kind_number result ≡ marker_number (marker_of self) }
+    {
+        match self {
+            ConflictMarkerKind::Ambiguity => NodeKind::AmbiguityMarker,
+            ConflictMarkerKind::Precedence => NodeKind::PrecedenceMarker,
+        }
+    }
+}
+
+// The value of a precedence item's record.
+pub fn prec_value(kind: Option<PrecKind>) -> u32
+    ensures { result ≡ prec_value (prec_in kind) }
+{
+    kind.map_or(0, |kind| kind as u32)
+}
+
+fn same_bytes(left: &[u8], right: &[u8]) -> bool
+    ensures { result ≡ same left.now right.now }
+{
+    left == right
 }
 
 // The words of a record.
 #[derive(Clone, Copy)]
 pub struct Record {
-    pub kind: u32,
+    pub kind: NodeKind,
     pub start: u32,
     pub place: u32,
     pub size: u32,
@@ -114,124 +359,23 @@ pub struct Record {
     pub children: u32,
 }
 
-// What the root of a tree has to be.
+// A stored tree, or what may be one.
 #[derive(Clone, Copy)]
+pub struct Tree<'a> {
+    pub records: &'a [u32],
+    pub texts: &'a [u8],
+}
+
+// What the root of a tree has to be.
+#[derive(Clone, Copy, Debug, PartialEq, Eq)]
 pub enum Root {
     Expression,
     Grammar,
 }
 
-// How two trees compare, or that one of them is none.
-#[derive(Clone, Copy)]
-pub enum Comparison {
-    Equal,
-    Different,
-    NotATree,
-}
-
-// One span, and two.
-fn one_range(first: u32, past: u32) -> Ranges
-    ensures { (result.count ≡ 1) × (take 2 result.ends ≡ first ∷ past ∷ []) }
-{
-    let mut ends = [0u32; 20];
-    ends[0] = first;
-    ends[1] = past;
-    Ranges { ends, count: 1 }
-}
-
-fn two_ranges(first: u32, past: u32, second: u32, end: u32) -> Ranges
-    ensures { (result.count ≡ 2) × (take 4 result.ends ≡ first ∷ past ∷ second ∷ end ∷ []) }
-{
-    let mut ends = [0u32; 20];
-    ends[0] = first;
-    ends[1] = past;
-    ends[2] = second;
-    ends[3] = end;
-    Ranges { ends, count: 2 }
-}
-
-// `CharClass::ranges`.
-pub fn char_class_ranges(class: CharClass) -> Ranges
-    ensures { (result.count ≡ length (ranges (class_of class))) × (take (result.count * 2) result.ends ≡ flat (ranges (class_of class))) }
-{
-    match class {
-        CharClass::AsciiLetter => two_ranges(65, 91, 97, 123),
-        CharClass::AsciiLowercase => one_range(97, 123),
-        CharClass::AsciiUppercase => one_range(65, 91),
-        CharClass::Digit => one_range(48, 58),
-        CharClass::Whitespace => Ranges {
-            ends: WHITESPACE,
-            count: 10,
-        },
-        CharClass::Eof => Ranges {
-            ends: WHITESPACE,
-            count: 0,
-        },
-    }
-}
-
-// The value of a class's record.
-pub fn class_value(class: CharClass) -> u32
-    ensures { result ≡ class_value (class_of class) }
-{
-    match class {
-        CharClass::AsciiLetter => 0,
-        CharClass::AsciiLowercase => 1,
-        CharClass::AsciiUppercase => 2,
-        CharClass::Digit => 3,
-        CharClass::Whitespace => 4,
-        CharClass::Eof => 5,
-    }
-}
-
-// The value of a repeat's record.
-pub fn repeat_value(kind: RepeatKind) -> u32
-    ensures { result ≡ repeat_value (repeat_of kind) }
-{
-    match kind {
-        RepeatKind::Optional => 0,
-        RepeatKind::ZeroOrMore => 1,
-        RepeatKind::OneOrMore => 2,
-    }
-}
-
-// The value of a specialize's record, and of an external specializer's.
-pub fn specialize_value(kind: SpecializeKind) -> u32
-    ensures { result ≡ specialize_value (specialize_of kind) }
-{
-    match kind {
-        SpecializeKind::Extend => 1,
-        SpecializeKind::Specialize => 2,
-    }
-}
-
-// The kind of a marker's record.
-pub fn marker_number(kind: ConflictMarkerKind) -> u32
-    ensures { result ≡ marker_number (marker_of kind) }
-{
-    match kind {
-        ConflictMarkerKind::Ambiguity => 41,
-        ConflictMarkerKind::Precedence => 42,
-    }
-}
-
-// The value of a precedence item's record.
-pub fn prec_value(kind: PrecKind) -> u32
-    ensures { result ≡ prec_value (prec_of kind) }
-{
-    match kind {
-        PrecKind::Missing => 0,
-        PrecKind::Left => 1,
-        PrecKind::Right => 2,
-        PrecKind::Cut => 3,
-    }
-}
-
-fn wide(x: u32) -> usize
-    ensures { result ≡ x }
-{
-    x as usize
-}
+// Words and texts that are no tree.
+#[derive(Clone, Copy, Debug, PartialEq, Eq)]
+pub struct NotATree;
 
 // How many records the words have.
 pub fn count(records: &[u32]) -> usize
@@ -261,7 +405,7 @@ pub fn first(records: &[u32], end: usize, n: usize) -> usize
             return 0;
         }
         i -= 1;
-        need = need - 1 + wide(word(records, i, CHILDREN));
+        need = need - 1 + word(records, i, CHILDREN) as usize;
     }
     i
 }
@@ -271,494 +415,377 @@ pub fn child(records: &[u32], i: usize, k: usize) -> usize
     requires { (i < count_of records.now) × (k < word_at records.now i 6) }
     ensures { result ≡ first_place records.now i (word_at records.now i 6 - (k + 1)) }
 {
-    first(records, i, wide(word(records, i, CHILDREN)) - (k + 1))
+    first(records, i, word(records, i, CHILDREN) as usize - (k + 1))
 }
 
-// The kind of the last branch that ends before the record `end`, or 0.
-pub fn kind_before(records: &[u32], end: usize) -> u32
+// The kind of the last branch that ends before the record `end`, if one does and its number is a kind's.
+#[tactic(auto, unfolding(crate::specs::Promise::kind_before))]
+pub fn kind_before(records: &[u32], end: usize) -> Option<NodeKind>
     requires { end ≤ count_of records.now }
-    ensures { result ≡ kind_before records.now end }
+    ensures { IsKind (kind_before records.now end) result }
 {
     if end == 0 {
-        return 0;
+        return None;
     }
-    word(records, end - 1, KIND)
+    NodeKind::try_from(word(records, end - 1, KIND)).ok()
 }
 
-fn is_kind(k: u32) -> bool
-    ensures { result ≡ is_kind k }
-{
-    if k < 1 {
-        return false;
-    }
-    if k <= 26 {
-        return true;
-    }
-    if k < 30 {
-        return false;
-    }
-    k <= 42
+// The kinds that the children of a group may have.
+#[derive(Clone, Copy, Debug, PartialEq, Eq)]
+enum Kinds {
+    Of(NodeKind),
+    Expressions,
+    Slots,
+    References,
+    Parts,
 }
 
-pub fn is_expression(k: u32) -> bool
-    ensures { result ≡ is_expression k }
-{
-    match k {
-        30 => true,
-        31 => true,
-        32 => true,
-        33 => true,
-        34 => true,
-        35 => true,
-        36 => true,
-        37 => true,
-        39 => true,
-        40 => true,
-        _ => false,
-    }
+// A group of children of some kinds: as many as there are; just one; at most one.
+#[derive(Clone, Copy, Debug, PartialEq, Eq)]
+enum Group {
+    Each(Kinds),
+    One(Kinds),
+    AtMostOne(Kinds),
 }
 
-fn has_text(k: u32) -> bool
-    ensures { result ≡ has_text k }
-{
-    match k {
-        2 => true,
-        3 => true,
-        4 => true,
-        5 => true,
-        6 => true,
-        7 => true,
-        11 => true,
-        13 => true,
-        14 => true,
-        15 => true,
-        16 => true,
-        17 => true,
-        18 => true,
-        19 => true,
-        21 => true,
-        24 => true,
-        25 => true,
-        26 => true,
-        30 => true,
-        32 => true,
-        36 => true,
-        41 => true,
-        42 => true,
-        _ => false,
-    }
-}
-
-fn is_specialize(value: u32) -> bool
-    ensures { result ≡ within 1 2 value }
-{
-    if value < 1 {
-        return false;
-    }
-    value <= 2
-}
-
-// The value and second word of a kind.
-fn values_fit(kind: u32, value: u32, second: u32) -> bool
-    ensures { result ≡ values_fit kind value second }
-{
-    if kind == 38 {
-        if value < second {
-            return second <= 1114112;
-        }
-        return false;
-    }
-    if second != 0 {
-        return false;
-    }
-    match kind {
-        1 => value <= 1,
-        5 => value <= 1,
-        34 => value <= 1,
-        37 => value <= 1,
-        18 => is_specialize(value),
-        31 => is_specialize(value),
-        35 => value <= 2,
-        21 => value <= 3,
-        40 => value <= 5,
-        _ => value == 0,
-    }
-}
-
-// Groups of children, up to a 0.
-fn one_group(a: u32) -> [u32; 14]
-    ensures { (length result ≡ 14) × (groups_in result ≡ groups_in (a ∷ [])) }
-{
-    [a, 0, 0, 0, 0, 0, 0, 0, 0, 0, 0, 0, 0, 0]
-}
-
-fn two_groups(a: u32, b: u32) -> [u32; 14]
-    ensures { (length result ≡ 14) × (groups_in result ≡ groups_in (a ∷ b ∷ [])) }
-{
-    [a, b, 0, 0, 0, 0, 0, 0, 0, 0, 0, 0, 0, 0]
-}
-
-fn three_groups(a: u32, b: u32, c: u32) -> [u32; 14]
-    ensures { (length result ≡ 14) × (groups_in result ≡ groups_in (a ∷ b ∷ c ∷ [])) }
-{
-    [a, b, c, 0, 0, 0, 0, 0, 0, 0, 0, 0, 0, 0]
-}
-
-fn four_groups(a: u32, b: u32, c: u32, d: u32) -> [u32; 14]
-    ensures { (length result ≡ 14) × (groups_in result ≡ groups_in (a ∷ b ∷ c ∷ d ∷ [])) }
-{
-    [a, b, c, d, 0, 0, 0, 0, 0, 0, 0, 0, 0, 0]
-}
-
-// Those of a sequence: none where it is explicitly empty.
-fn slots(value: u32) -> [u32; 14]
-    ensures { (length result ≡ 14) × (groups_in result ≡ reverse (groups_of 34 value)) }
-{
-    match value {
-        0 => one_group(SLOTS),
-        _ => one_group(0),
-    }
-}
-
-// The groups of children of a record, last first, up to a 0.
-fn groups(kind: u32, value: u32) -> [u32; 14]
-    ensures { (length result ≡ 14) × (groups_in result ≡ reverse (groups_of kind value)) }
-{
-    match kind {
-        1 => [25, 24, 23, 22, 20, 19, 18, 16, 14, 12, 8, 3, 2, 0],
-        2 => three_groups(ONE_EXPRESSION, 4, 5),
-        3 => three_groups(ONE_EXPRESSION, 4, 5),
-        5 => one_group(PARTS),
-        8 => four_groups(11, 3, 10, 9),
-        9 => one_group(REFERENCES),
-        10 => two_groups(ONE_REFERENCE, ONE_REFERENCE),
-        11 => one_group(5),
-        12 => three_groups(AT_MOST_ONE_NODE, 3, 9),
-        13 => one_group(5),
-        14 => one_group(ONE_SOURCE),
-        16 => three_groups(17, 13, ONE_SOURCE),
-        18 => three_groups(13, ONE_SOURCE, ONE_EXPRESSION),
-        19 => one_group(ONE_SOURCE),
-        20 => one_group(21),
-        22 => one_group(ONE_EXPRESSION),
-        23 => three_groups(3, 2, ONE_EXPRESSION),
-        25 => two_groups(ONE_SOURCE, ONE_NAME),
-        30 => one_group(EXPRESSIONS),
-        31 => three_groups(ONE_EXPRESSION, ONE_EXPRESSION, 5),
-        32 => two_groups(ONE_EXPRESSION, 5),
-        33 => one_group(EXPRESSIONS),
-        34 => slots(value),
-        35 => one_group(ONE_EXPRESSION),
-        37 => one_group(38),
-        _ => one_group(0),
-    }
-}
-
-// A kind is one of those that a number stands for.
-fn is_among(kinds: u32, k: u32) -> bool
-    ensures { result ≡ among (kinds_of kinds) k }
-{
-    match kinds {
-        50 => is_expression(k),
-        51 => is_slot(k),
-        52 => is_reference(k),
-        53 => is_part(k),
-        _ => k == kinds,
-    }
-}
-
-fn is_slot(k: u32) -> bool
-    ensures { result ≡ among (kinds_of 51) k }
-{
-    match k {
-        41 => true,
-        42 => true,
-        _ => is_expression(k),
-    }
-}
-
-fn is_reference(k: u32) -> bool
-    ensures { result ≡ among (kinds_of 52) k }
-{
-    match k {
-        30 => true,
-        36 => true,
-        _ => false,
-    }
-}
-
-fn is_part(k: u32) -> bool
-    ensures { result ≡ among (kinds_of 53) k }
-{
-    match k {
-        6 => true,
-        7 => true,
-        _ => false,
-    }
-}
-
-// Where the last branch begins and the one before it ends, where some are `left`. Otherwise nobody asks, and the count back is spared.
-fn sibling(records: &[u32], end: usize, left: usize) -> usize
-    requires { end ≤ count_of records.now }
-    ensures { (result ≤ count_of records.now) × (0 < left → result ≡ first_place records.now end 1) }
-{
-    if left == 0 {
-        return end;
-    }
-    first(records, end, 1)
-}
-
-// Some branches are left, and the last of them is of one of the kinds that a number stands for.
-fn begins(records: &[u32], kinds: u32, end: usize, left: usize) -> bool
-    requires { end ≤ count_of records.now }
-    ensures { result ≡ begins_with (kinds_of kinds) (kinds_back records.now end left) }
-{
-    if left == 0 {
-        return false;
-    }
-    is_among(kinds, kind_before(records, end))
-}
-
-// The last n branches that end before the record `end` may be the children of a record of a kind and value.
-fn children_fit(records: &[u32], kind: u32, value: u32, n: usize, end: usize) -> bool
-    requires { end ≤ count_of records.now }
-    ensures { result ≡ children_fit kind value (kinds_back records.now end n) }
-{
-    let groups = groups(kind, value);
-    let mut g = 0;
-    let mut j = end;
-    let mut left = n;
-    while g < 14 {
-        let group = groups[g];
-        if group == 0 {
-            return left == 0;
-        }
-        if group < ONE {
-            if begins(records, group, j, left) {
-                left -= 1;
-                j = sibling(records, j, left);
-            } else {
-                g += 1;
+impl Kinds {
+    fn contains(self, kind: NodeKind) -> bool
+        ensures { result ≡ among (kinds_of self) (kind_number kind) }
+    {
+        match self {
+            Kinds::Of(only) => kind == only,
+            Kinds::Expressions => kind.is_expression(),
+            Kinds::Slots => {
+                kind == NodeKind::AmbiguityMarker
+                    || kind == NodeKind::PrecedenceMarker
+                    || kind.is_expression()
             }
-        } else if group < AT_MOST_ONE {
-            if !begins(records, group - ONE, j, left) {
+            Kinds::References => kind == NodeKind::Name || kind == NodeKind::Literal,
+            Kinds::Parts => kind == NodeKind::PartText || kind == NodeKind::PartName,
+        }
+    }
+}
+
+// The groups of children of a record, last first.
+#[tactic(auto, unfolding(crate::specs::OneTree::groups_of))]
+fn groups(kind: NodeKind, value: u32) -> &'static [Group]
+    ensures { map group_of result.now ≡ reverse (groups_of (kind_number kind) value) }
+{
+    use Group::{AtMostOne, Each, One};
+    use Kinds::{Expressions, Of, Parts, References, Slots};
+    match kind {
+        NodeKind::Grammar => &[
+            Each(Of(NodeKind::ExternalProp)),
+            Each(Of(NodeKind::Dialect)),
+            Each(Of(NodeKind::ScopedSkip)),
+            Each(Of(NodeKind::MainSkip)),
+            Each(Of(NodeKind::Precedences)),
+            Each(Of(NodeKind::PropSource)),
+            Each(Of(NodeKind::ExternalSpecializer)),
+            Each(Of(NodeKind::ExternalTokens)),
+            Each(Of(NodeKind::Context)),
+            Each(Of(NodeKind::LocalTokens)),
+            Each(Of(NodeKind::Tokens)),
+            Each(Of(NodeKind::Rule)),
+            Each(Of(NodeKind::TopRule)),
+        ],
+        NodeKind::TopRule | NodeKind::Rule => &[
+            One(Expressions),
+            Each(Of(NodeKind::Param)),
+            Each(Of(NodeKind::Prop)),
+        ],
+        NodeKind::Prop => &[Each(Parts)],
+        NodeKind::Tokens => &[
+            Each(Of(NodeKind::TokenLiteral)),
+            Each(Of(NodeKind::Rule)),
+            Each(Of(NodeKind::TokenConflict)),
+            Each(Of(NodeKind::TokenPrecedence)),
+        ],
+        NodeKind::TokenPrecedence => &[Each(References)],
+        NodeKind::TokenConflict => &[One(References), One(References)],
+        NodeKind::TokenLiteral | NodeKind::NamedNode => { &[Each(Of(NodeKind::Prop))] }
+        NodeKind::LocalTokens => &[
+            AtMostOne(Of(NodeKind::NamedNode)),
+            Each(Of(NodeKind::Rule)),
+            Each(Of(NodeKind::TokenPrecedence)),
+        ],
+        NodeKind::Context | NodeKind::PropSource => &[One(Of(NodeKind::Source))],
+        NodeKind::ExternalTokens => &[
+            Each(Of(NodeKind::ConflictName)),
+            Each(Of(NodeKind::NamedNode)),
+            One(Of(NodeKind::Source)),
+        ],
+        NodeKind::ExternalSpecializer => &[
+            Each(Of(NodeKind::NamedNode)),
+            One(Of(NodeKind::Source)),
+            One(Expressions),
+        ],
+        NodeKind::Precedences => &[Each(Of(NodeKind::PrecedenceItem))],
+        NodeKind::MainSkip | NodeKind::Repeat => &[One(Expressions)],
+        NodeKind::ScopedSkip => &[
+            Each(Of(NodeKind::Rule)),
+            Each(Of(NodeKind::TopRule)),
+            One(Expressions),
+        ],
+        NodeKind::ExternalProp => &[One(Of(NodeKind::Source)), One(Of(NodeKind::ExternalName))],
+        NodeKind::Name | NodeKind::Choice => &[Each(Expressions)],
+        NodeKind::Specialize => &[One(Expressions), One(Expressions), Each(Of(NodeKind::Prop))],
+        NodeKind::InlineRule => &[One(Expressions), Each(Of(NodeKind::Prop))],
+        NodeKind::Sequence if value == 0 => &[Each(Slots)],
+        NodeKind::Set => &[Each(Of(NodeKind::Span))],
+        _ => &[],
+    }
+}
+
+// Branches that follow one another, the last `left` of those that end before the record `end`.
+#[derive(Clone, Copy)]
+struct Branches<'a> {
+    records: &'a [u32],
+    end: usize,
+    left: usize,
+    ghost inside: { end ≤ count_of records.now },
+}
+
+// Inlined, since each record's children are passed here.
+impl Branches<'_> {
+    // There is one, and the last of them is of one of the kinds.
+    #[inline(always)]
+    fn end_in(self, kinds: Kinds) -> bool
+        ensures { result ≡ begins (kinds_of kinds) (kinds_back self.entry.records.now self.entry.end self.entry.left) }
+    {
+        if self.left == 0 {
+            return false;
+        }
+        let Some(kind) = kind_before(self.records, self.end) else {
+            return false;
+        };
+        kinds.contains(kind)
+    }
+
+    // Those before the last. Where none is left nobody asks where they end, and the count back is spared.
+    #[inline(always)]
+    fn before(self) -> Self
+        requires { 0 < self.left }
+        ensures records { result.records.now ≡ self.entry.records.now }
+        ensures left { result.left + 1 ≡ self.entry.left }
+        ensures kinds { kinds_back result.records.now result.end result.left ≡ drop 1 (kinds_back self.entry.records.now self.entry.end self.entry.left) }
+    {
+        let left = self.left - 1;
+        let end = if left == 0 {
+            self.end
+        } else {
+            first(self.records, self.end, 1)
+        };
+        Branches {
+            records: self.records,
+            end,
+            left,
+        }
+    }
+
+    // Those before the last ones that are of the kinds.
+    #[inline(always)]
+    fn without(self, kinds: Kinds) -> Self
+        ensures kinds { kinds_back result.records.now result.end result.left ≡ without (kinds_of kinds) (kinds_back self.entry.records.now self.entry.end self.entry.left) }
+        ensures records { result.records.now ≡ self.entry.records.now }
+    {
+        let mut branches = self;
+        while branches.end_in(kinds) {
+            branches = branches.before();
+        }
+        branches
+    }
+
+    // They may be the children of a record of a kind and value.
+    fn fit(self, kind: NodeKind, value: u32) -> bool
+        ensures { result ≡ children_fit (kind_number kind) value (kinds_back self.entry.records.now self.entry.end self.entry.left) }
+    {
+        let mut branches = self;
+        for group in groups(kind, value) {
+            match *group {
+                Group::Each(kinds) => branches = branches.without(kinds),
+                Group::One(kinds) => {
+                    if !branches.end_in(kinds) {
+                        return false;
+                    }
+                    branches = branches.before();
+                }
+                Group::AtMostOne(kinds) => {
+                    if branches.end_in(kinds) {
+                        branches = branches.before();
+                    }
+                }
+            }
+        }
+        branches.left == 0
+    }
+}
+
+// The record i of the words, if its number is a kind's.
+fn read(records: &[u32], i: usize) -> Option<Record>
+    requires { i < count_of records.now }
+    ensures { IsRecord (record_at records.now i) result }
+{
+    let kind = NodeKind::try_from(word(records, i, KIND)).ok()?;
+    Some(Record {
+        kind,
+        start: word(records, i, START),
+        place: word(records, i, PLACE),
+        size: word(records, i, SIZE),
+        value: word(records, i, VALUE),
+        second: word(records, i, SECOND),
+        children: word(records, i, CHILDREN),
+    })
+}
+
+impl Record {
+    // A record i over its children.
+    #[tactic(auto, unfolding(crate::specs::OneTree::record_fits))]
+    fn fits(self, records: &[u32], i: usize, at: usize, room: usize) -> bool
+        requires { (i < count_of records.now) × (at ≤ room) }
+        ensures { result ≡ record_fits room at (record_of self) (kinds_back records.now i self.children) }
+    {
+        let branches = Branches {
+            records,
+            end: i,
+            left: self.children as usize,
+        };
+        self.kind.values_fit(self.value, self.second)
+            && self.text_fits(at, room)
+            && branches.fit(self.kind, self.value)
+    }
+
+    // The text of a record, where the texts before it end at `at`, in texts of `room` bytes.
+    #[tactic(auto, unfolding(crate::specs::OneTree::text_fits))]
+    fn text_fits(self, at: usize, room: usize) -> bool
+        requires { at ≤ room }
+        ensures { result ≡ text_fits room at (record_of self) }
+    {
+        let size = self.size as usize;
+        if size == 0 {
+            return self.place == 0;
+        }
+        self.kind.has_text() && self.place as usize == at && size <= room - at
+    }
+}
+
+impl Root {
+    fn admits(self, kind: NodeKind) -> bool
+        ensures { result ≡ root_of self (kind_number kind) }
+    {
+        match self {
+            Root::Expression => kind.is_expression(),
+            Root::Grammar => kind == NodeKind::Grammar,
+        }
+    }
+}
+
+impl<'a> Tree<'a> {
+    // The words and texts are one tree, with the root that is asked for. Each record is visited once, and passed once more for each
+    // branch it lies in that has a sibling before it: at most records times levels. Stacked repeats have no siblings, so they take one
+    // visit each.
+    pub fn is_tree(self, root: Root) -> bool
+        ensures { result ≡ is_some (build (root_of root) self.entry.records.now self.entry.texts.now) }
+    {
+        let n = count(self.records);
+        if n * WIDTH != self.records.len() {
+            return false;
+        }
+        let mut depth = 0;
+        let mut at = 0;
+        for i in 0..n {
+            let Some(record) = read(self.records, i) else {
+                return false;
+            };
+            let children = record.children as usize;
+            if depth < children {
                 return false;
             }
-            left -= 1;
-            j = sibling(records, j, left);
-            g += 1;
-        } else if begins(records, group - AT_MOST_ONE, j, left) {
-            left -= 1;
-            j = sibling(records, j, left);
-            g += 1;
-        } else {
-            g += 1;
+            if !record.fits(self.records, i, at, self.texts.len()) {
+                return false;
+            }
+            depth = depth - children + 1;
+            at += record.size as usize;
         }
-    }
-    left == 0
-}
-
-// The text of a record, where the texts before it end at `at`, in texts of `room` bytes.
-fn text_fits(records: &[u32], i: usize, at: usize, room: usize) -> bool
-    requires { (i < count_of records.now) × (at ≤ room) }
-    ensures { result ≡ text_fits room at (record_at records.now i) }
-{
-    let size = wide(word(records, i, SIZE));
-    let place = wide(word(records, i, PLACE));
-    if size == 0 {
-        return place == 0;
-    }
-    if !has_text(word(records, i, KIND)) {
-        return false;
-    }
-    if place != at {
-        return false;
-    }
-    size <= room - at
-}
-
-// A record over its children.
-fn record_fits(records: &[u32], i: usize, at: usize, room: usize) -> bool
-    requires { (i < count_of records.now) × (at ≤ room) }
-    ensures { result ≡ record_fits room at (record_at records.now i) (kinds_back records.now i (word_at records.now i 6)) }
-{
-    let kind = word(records, i, KIND);
-    if !is_kind(kind) {
-        return false;
-    }
-    let value = word(records, i, VALUE);
-    if !values_fit(kind, value, word(records, i, SECOND)) {
-        return false;
-    }
-    if !text_fits(records, i, at, room) {
-        return false;
-    }
-    children_fit(records, kind, value, wide(word(records, i, CHILDREN)), i)
-}
-
-fn is_root(root: Root, k: u32) -> bool
-    ensures { result ≡ root_of root k }
-{
-    match root {
-        Root::Expression => is_expression(k),
-        Root::Grammar => k == 1,
-    }
-}
-
-// The words and texts are one tree, with the root that is asked for. Each record is visited once, and passed once more for each branch
-// it lies in that has a sibling before it: at most records times levels. Stacked repeats have no siblings, so they take one visit each.
-pub fn is_tree(root: Root, records: &[u32], texts: &[u8]) -> bool
-    ensures { result ≡ is_some (build (root_of root) records.now texts.now) }
-{
-    let n = count(records);
-    if n * WIDTH != records.len() {
-        return false;
-    }
-    let mut depth: usize = 0;
-    let mut at: usize = 0;
-    let mut i = 0;
-    while i < n {
-        let children = wide(word(records, i, CHILDREN));
-        if depth < children {
+        let Some(kind) = kind_before(self.records, n) else {
             return false;
+        };
+        depth == 1 && root.admits(kind)
+    }
+
+    // The text of a record.
+    pub fn text(self, i: usize) -> &'a [u8]
+        requires { Inside self.records.now self.texts.now i }
+        ensures { result.now ≡ (node_at self.entry.records.now self.entry.texts.now i).row.text }
+    {
+        let place = word(self.records, i, PLACE) as usize;
+        let size = word(self.records, i, SIZE) as usize;
+        &self.texts[place..place + size]
+    }
+
+    // The records i of two trees are the same: all but starts, places of texts, and a prop's value, which is its `@`.
+    #[tactic(auto, unfolding(crate::specs::Promise::same_node))]
+    fn same_record(self, other: Tree, i: usize) -> bool
+        requires left { Inside self.records.now self.texts.now i }
+        requires right { Inside other.records.now other.texts.now i }
+        ensures { result ≡ same_node (node_at self.entry.records.now self.entry.texts.now i) (node_at other.entry.records.now other.entry.texts.now i) }
+    {
+        let kind = word(self.records, i, KIND);
+        kind == word(other.records, i, KIND)
+            && (kind == NodeKind::Prop.number()
+                || word(self.records, i, VALUE) == word(other.records, i, VALUE))
+            && word(self.records, i, SECOND) == word(other.records, i, SECOND)
+            && word(self.records, i, CHILDREN) == word(other.records, i, CHILDREN)
+            && same_bytes(self.text(i), other.text(i))
+    }
+
+    // `Expression::structurally_eq` on stored trees: record by record, once each is found to be a tree.
+    pub fn structurally_eq(self, other: Tree) -> Result<bool, NotATree>
+        ensures { result ≡ comparison (build is_expression self.entry.records.now self.entry.texts.now) (build is_expression other.entry.records.now other.entry.texts.now) }
+    {
+        if !self.is_tree(Root::Expression) {
+            return Err(NotATree);
         }
-        if !record_fits(records, i, at, texts.len()) {
-            return false;
+        if !other.is_tree(Root::Expression) {
+            return Err(NotATree);
         }
-        depth = depth - children + 1;
-        at += wide(word(records, i, SIZE));
-        i += 1;
-    }
-    if depth != 1 {
-        return false;
-    }
-    is_root(root, word(records, n - 1, KIND))
-}
-
-fn same_bytes(left: &[u8], right: &[u8]) -> bool
-    ensures { result ≡ same left.now right.now }
-{
-    check::same(left, right)
-}
-
-// The text of a record.
-pub fn text<'a>(records: &[u32], texts: &'a [u8], i: usize) -> &'a [u8]
-    requires { Inside records.now texts.now i }
-    ensures { result.now ≡ (node_at records.now texts.now i).row.text }
-{
-    let place = wide(word(records, i, PLACE));
-    let end = place + wide(word(records, i, SIZE));
-    &texts[place..end]
-}
-
-// A prop's value, which is its `@`, is not compared.
-fn same_value(kind: u32, left: u32, right: u32) -> bool
-    ensures { result ≡ (eqb kind 5 || eqb left right) }
-{
-    if kind == 5 {
-        return true;
-    }
-    left == right
-}
-
-// The records i of two trees are the same: all but starts, places of texts, and a prop's value.
-fn same_record(
-    left_records: &[u32],
-    left_texts: &[u8],
-    right_records: &[u32],
-    right_texts: &[u8],
-    i: usize,
-) -> bool
-    requires left { Inside left_records.now left_texts.now i }
-    requires right { Inside right_records.now right_texts.now i }
-    ensures { result ≡ same_node (node_at left_records.now left_texts.now i) (node_at right_records.now right_texts.now i) }
-{
-    let kind = word(left_records, i, KIND);
-    if kind != word(right_records, i, KIND) {
-        return false;
-    }
-    if !same_value(
-        kind,
-        word(left_records, i, VALUE),
-        word(right_records, i, VALUE),
-    ) {
-        return false;
-    }
-    if word(left_records, i, SECOND) != word(right_records, i, SECOND) {
-        return false;
-    }
-    if word(left_records, i, CHILDREN) != word(right_records, i, CHILDREN) {
-        return false;
-    }
-    same_bytes(
-        text(left_records, left_texts, i),
-        text(right_records, right_texts, i),
-    )
-}
-
-// `Expression::structurally_eq` on stored trees: record by record, once each is found to be a tree.
-pub fn structurally_eq(
-    left_records: &[u32],
-    left_texts: &[u8],
-    right_records: &[u32],
-    right_texts: &[u8],
-) -> Comparison
-    ensures { result ≡ comparison (build is_expression left_records.now left_texts.now) (build is_expression right_records.now right_texts.now) }
-{
-    if !is_tree(Root::Expression, left_records, left_texts) {
-        return Comparison::NotATree;
-    }
-    if !is_tree(Root::Expression, right_records, right_texts) {
-        return Comparison::NotATree;
-    }
-    if left_records.len() != right_records.len() {
-        return Comparison::Different;
-    }
-    let n = count(left_records);
-    let mut i = 0;
-    while i < n {
-        if !same_record(left_records, left_texts, right_records, right_texts, i) {
-            return Comparison::Different;
+        if self.records.len() != other.records.len() {
+            return Ok(false);
         }
-        i += 1;
+        for i in 0..count(self.records) {
+            if !self.same_record(other, i) {
+                return Ok(false);
+            }
+        }
+        Ok(true)
     }
-    Comparison::Equal
 }
 
 // Stores a record at a place where it fits there, and says how many words it takes in any case.
 pub fn put(records: &mut [u32], at: usize, r: Record) -> usize
     ensures { (result ≡ width) × (records.new ≡ written records.old at (words_of (record_of r))) }
 {
-    if records.len() < at {
-        return WIDTH;
+    if at <= records.len() && WIDTH <= records.len() - at {
+        records[at..at + WIDTH].copy_from_slice(&[
+            r.kind.number(),
+            r.start,
+            r.place,
+            r.size,
+            r.value,
+            r.second,
+            r.children,
+        ]);
     }
-    if records.len() - at < WIDTH {
-        return WIDTH;
-    }
-    records[at] = r.kind;
-    records[at + 1] = r.start;
-    records[at + 2] = r.place;
-    records[at + 3] = r.size;
-    records[at + 4] = r.value;
-    records[at + 5] = r.second;
-    records[at + 6] = r.children;
     WIDTH
 }
 
-// Stores a text at a place where it fits there, and says how many bytes it takes in any case.
+// Stores a text at a place where it fits there, and says how many bytes it takes in any case. Not one function with `put`: `written` is
+// of numbers and not of any type.
 pub fn put_text(texts: &mut [u8], at: usize, text: &[u8]) -> usize
     ensures { (result ≡ length text.now) × (texts.new ≡ written texts.old at text.now) }
 {
-    if texts.len() < at {
-        return text.len();
-    }
-    if texts.len() - at < text.len() {
-        return text.len();
-    }
-    let mut i = 0;
-    while i < text.len() {
-        texts[at + i] = text[i];
-        i += 1;
+    if at <= texts.len() && text.len() <= texts.len() - at {
+        texts[at..at + text.len()].copy_from_slice(text);
     }
     text.len()
 }

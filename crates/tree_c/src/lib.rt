@@ -6,14 +6,14 @@ ghost use Rattle.tree.specs.OneTree.{is_expression, build};
 ghost use Rattle.tree.specs.Promise.{is_some, comparison};
 ghost use Rattle.tree_c.specs.Answers.{comparison_number};
 
-use tree::{Comparison, Root};
+use tree::{NotATree, Root, Tree};
 
 // The words and texts are one tree, its root an expression.
 #[unsafe(no_mangle)]
 pub extern "C" fn tree_is_expression(records: &[u32], texts: &[u8]) -> bool
     ensures { result ≡ is_some (build is_expression records.now texts.now) }
 {
-    tree::is_tree(Root::Expression, records, texts)
+    Tree { records, texts }.is_tree(Root::Expression)
 }
 
 // The words and texts are one tree, its root a grammar.
@@ -21,7 +21,7 @@ pub extern "C" fn tree_is_expression(records: &[u32], texts: &[u8]) -> bool
 pub extern "C" fn tree_is_grammar(records: &[u32], texts: &[u8]) -> bool
     ensures { result ≡ is_some (build (λ k. eqb k 1) records.now texts.now) }
 {
-    tree::is_tree(Root::Grammar, records, texts)
+    Tree { records, texts }.is_tree(Root::Grammar)
 }
 
 // 1 for equal, 0 for different, 25 where one of the two is not a tree.
@@ -34,9 +34,17 @@ pub extern "C" fn tree_structurally_eq(
 ) -> u32
     ensures { result ≡ comparison_number (comparison (build is_expression left.now lefts.now) (build is_expression right.now rights.now)) }
 {
-    match tree::structurally_eq(left, lefts, right, rights) {
-        Comparison::Equal => 1,
-        Comparison::Different => 0,
-        Comparison::NotATree => 25,
+    let tree = Tree {
+        records: left,
+        texts: lefts,
+    };
+    let other = Tree {
+        records: right,
+        texts: rights,
+    };
+    match tree.structurally_eq(other) {
+        Ok(true) => 1,
+        Ok(false) => 0,
+        Err(NotATree) => 25,
     }
 }

@@ -14,6 +14,7 @@ use Rattle.spelling.specs.NormalText.{normal_text}
 use Rattle.writer.specs.Promise.{Lent, row_at, Run, Stored}
 use Rattle.writer.specs.Walk.{last_at, last_class, branches_text, closing}
 use Rattle.writer.proofs.Runs.{last_of, recount}
+use Rattle.writer.proofs.Kinded.{grammar-kinded, kind-at}
 use Rattle.writer.proofs.WalkedGrammar.{grammar_walked, tree_text}
 
 -- a tree whose last record is i: its children, and its text
@@ -49,7 +50,12 @@ module _ {ws ts : List ℕ} (s : Stored ws ts) where
   rooted = rw (← grammar_walked s.grammar) (rooted-of ws ts (grammar_branch s.grammar) (count_of ws - 1) all (omega (arith, all_of, some-records)))
 
   pub lent : ((i : ℕ) → word_at ws i 3 < 2 ^ 32) → Lent ws ts
-  lent h = record { few = s.few; sizes = h; inside = λ i k. all-inside ws ts (nodes (grammar_branch s.grammar)) 0 i all (omega arith) (omega (arith, all_of)) }
+  lent h = record {
+    few = s.few;
+    sizes = h;
+    inside = λ i k. all-inside ws ts (nodes (grammar_branch s.grammar)) 0 i all (omega arith) (omega (arith, all_of));
+    kinds = λ i k. kind-at ws ts (grammar_branch s.grammar) i (grammar-kinded s.grammar) all (omega (arith, all_of));
+  }
 
 -- the same, with the number of records and that of the root's children under names
 module _ {ws ts : List ℕ} {n k : ℕ} (e : n ≡ count_of ws) (c : k ≡ word_at ws (n - 1) 6) (s : Stored ws ts) where

@@ -1,9 +1,10 @@
 pub mod Measured
-pub mod Tables
 pub mod Small
 pub mod Walked
 pub mod WalkedExpressions
 pub mod WalkedDeclarations
 pub mod WalkedGrammar
 pub mod Runs
+pub mod Kinded
+pub mod Texts
 pub mod Grammars

@@ -10,7 +10,7 @@ use lib.ListN.{length, take}
 use borrow.Author.Tests.{lt-ltb, le-ltb}
 use Rattle.output.specs.Promise.{Wrote}
 use Rattle.basics.proofs.Lists.{front-none}
-use Rattle.writer.specs.declared.Written.TheVariants.{Bytes, TooLong}
+use Rattle.std.proofs.Common.{Ok, Err}
 use Rattle.writer.specs.Promise.{too_long, WroteWithin}
 
 module _ {t ys : List ℕ} {n : ℕ} (xs : List ℕ) (w : Wrote t (take 0 xs) ys n) where
@@ -18,19 +18,19 @@ module _ {t ys : List ℕ} {n : ℕ} (xs : List ℕ) (w : Wrote t (take 0 xs) ys
   untouched : ys ++ xs ≡ xs
   untouched = front-none ys xs w.same
 
-  pub over-limit : {limit : ℕ} → limit < n → WroteWithin limit t xs (ys ++ xs) TooLong
+  pub over-limit : {limit : ℕ} → limit < n → WroteWithin limit t xs (ys ++ xs) (Err (record {}))
   over-limit {limit} h =
       let c = w.counts in
       let e : too_long limit t xs ≡ true = rw (lt-ltb limit (length t) (omega arith)) in
       record { answer = rw e; output = rw e untouched }
 
-  pub over-output : {limit : ℕ} → length xs < n → WroteWithin limit t xs (ys ++ xs) TooLong
+  pub over-output : {limit : ℕ} → length xs < n → WroteWithin limit t xs (ys ++ xs) (Err (record {}))
   over-output {limit} h =
       let c = w.counts in
       let e : too_long limit t xs ≡ true = rw (lt-ltb (length xs) (length t) (omega arith)) (or-true (ltb limit (length t))) in
       record { answer = rw e; output = rw e untouched }
 
-  pub within_both : {zs : List ℕ} {m limit : ℕ} → n ≤ limit → n ≤ length xs → Wrote t (ys ++ xs) zs m → WroteWithin limit t xs zs (Bytes m)
+  pub within_both : {zs : List ℕ} {m limit : ℕ} → n ≤ limit → n ≤ length xs → Wrote t (ys ++ xs) zs m → WroteWithin limit t xs zs (Ok m)
   within_both {limit = limit} h k v =
       let c = w.counts in
       let d = v.counts in

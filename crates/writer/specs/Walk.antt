@@ -2,17 +2,24 @@
 -- the walk promise this; that it makes up the normal text is `grammar_walked` (proofs/WalkedGrammar.antt).
 -- Every token but the first of a line has its space in front.
 -- Assumes nothing.
-use Rattle.std.specs.Prelude.{ℕ, Bool, ◌&&◌, ◌||◌, not, List, [], ◌∷◌, ◌++◌, eqb}
+use Rattle.std.specs.Prelude.{ℕ, Bool, ◌&&◌, ◌||◌, not, List, [], ◌∷◌, ◌++◌, eqb, Option, Some, None}
 use Prim.Native.String.{String}
 use Rattle.basics.specs.Basics.{if◌then◌otherwise◌, letters, among}
 use Rattle.characters.specs.Spans.{◌upto◌}
 use Rattle.lexer.specs.Tokens.{Kind}
 use Rattle.tree.specs.Records.{Row, Branch, branch, Branches, []ᴮ, ◌∷ᴮ◌}
 use Rattle.tree.specs.OneTree.{is_expression, kind_of}
-use Rattle.tree.specs.Promise.{word_at, kind_before}
+use Rattle.tree.specs.Promise.{word_at, kind_number, kind_before}
+use Rattle.tree.specs.declared.NodeKind.{NodeKind}
+use Rattle.writer.specs.declared.Setting.{Setting}
 use Rattle.spelling.specs.Spelling.{quoted, span_text, spell}
 use Rattle.writer.specs.Promise.{row_at, Run}
 use Rattle.output.specs.Promise.{Wrote}
+
+-- the number of a class of the code, or 0 for none
+abbrev pub number_of : Option NodeKind → ℕ
+number_of None = 0
+number_of (Some k) = kind_number k
 
 infix 70 ◌says◌
 -- a text for a number
@@ -117,6 +124,13 @@ tail p c = if eqb c 30 then text_for expression_tails p otherwise if eqb c 15 th
 -- how children stand in a record: 1 in lines, 33 in arms, 34 in slots, else 0
 unfoldable pub setting : ℕ → ℕ
 setting p = if eqb p 1 then 1 otherwise if eqb p 33 then 33 otherwise if among (34 ∷ 35 ∷ []) p then 34 otherwise 0
+
+-- those of the code
+abbrev pub setting_number : Setting → ℕ
+setting_number Setting.Lines = 1
+setting_number Setting.Arms = 33
+setting_number Setting.Slots = 34
+setting_number Setting.Other = 0
 
 -- it stands in round brackets
 unfoldable pub in_brackets : (setting kind value : ℕ) → Bool

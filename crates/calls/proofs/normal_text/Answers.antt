@@ -1,23 +1,21 @@
--- `calls::normal_text` meets its contract: what `read` stored is what `write` asks for, and what it writes is the outcome.
+-- `normal_text` meets its contract.
 -- Assumes nothing.
-use Rattle.calls.proofs.NormalLaws.{kept, kept-few, kept-inside, kept-part, kept-stored, normal-refused, normal-kept}
+use Rattle.calls.proofs.NormalLaws.{kept, kept-inside, kept-part, kept-stored, normal-refused, normal-kept}
+use Rattle.tokens.proofs.Stops.{stopped}
+use Rattle.tokens.proofs.Stops.{stopped}
 use Rattle.calls.proofs.normal_text.Goals as goal
 
-pub slice_bounds-write-end : goal.slice_bounds-write-end
-slice_bounds-write-end c = kept-inside (kept _ _ _ _ _ c.read.result c.read.ensures.outcome c.in-Stored.is)
+pub returns-in_err-stored : goal.returns-in_err-stored
+returns-in_err-stored c = rw (stopped c.from_residual.result c.from_residual.ensures.1) (normal-refused _ _ _ _ _ _ c.in_err-stored.field-0.0 c.in_err-stored.ensures.outcome)
 
-pub slice_bounds-write-end-in-Stored : goal.slice_bounds-write-end-in-Stored
-slice_bounds-write-end-in-Stored c = kept-part (kept _ _ _ _ _ c.read.result c.read.ensures.outcome c.in-Stored.is)
+pub slice_bounds-tree-end : goal.slice_bounds-tree-end
+slice_bounds-tree-end c = kept-inside (kept _ _ _ _ _ c.in_ok-stored.stored c.in_ok-stored.ensures.outcome c.in_ok-stored.ensures.few)
+
+pub slice_bounds-tree-end-2 : goal.slice_bounds-tree-end-2
+slice_bounds-tree-end-2 c = kept-part (kept _ _ _ _ _ c.in_ok-stored.stored c.in_ok-stored.ensures.outcome c.in_ok-stored.ensures.few)
 
 pub write-requires : goal.write-requires
-write-requires c = let r = c.read in
-    let q = c.in-Stored.is in
-    kept-stored (kept _ _ _ _ _ r.result r.ensures.outcome q) (kept-few _ _ _ _ _ r.result r.ensures.outcome q r.ensures.few)
+write-requires c = kept-stored (kept _ _ _ _ _ c.in_ok-stored.stored c.in_ok-stored.ensures.outcome c.in_ok-stored.ensures.few)
 
-pub returns-in-Refused : goal.returns-in-Refused
-returns-in-Refused c = normal-refused _ _ _ _ _ _ c.read.result c.read.ensures.outcome c.in-Refused.is
-
-pub returns-in-Stored : goal.returns-in-Stored
-returns-in-Stored c = let r = c.read in
-    let q = c.in-Stored.is in
-    normal-kept (kept _ _ _ _ _ r.result r.ensures.outcome q) (kept-few _ _ _ _ _ r.result r.ensures.outcome q r.ensures.few) _ _ c.write.result c.write.ensures
+pub returns : goal.returns
+returns c = normal-kept (kept _ _ _ _ _ c.in_ok-stored.stored c.in_ok-stored.ensures.outcome c.in_ok-stored.ensures.few) _ _ c.write.result c.write.ensures

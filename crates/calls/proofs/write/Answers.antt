@@ -1,14 +1,13 @@
--- `calls::write` meets its contract: what the writer answers is the outcome.
+-- `write` meets its contract.
 -- Assumes nothing.
-use mathlib.Core.Path.{refl}
-use Rattle.grammar.specs.Reading.{longest}
 use Rattle.calls.proofs.NormalLaws.{write_done, write_full}
+use Rattle.grammar.specs.Reading.{longest}
 use Rattle.calls.proofs.write.Goals as goal
 
-pub returns-in-TooLong : goal.returns-in-TooLong
+pub returns-in_default : goal.returns-in_default
 unfolding longest
-returns-in-TooLong c = write_full _ c.write_normal_text.result c.write_normal_text.ensures _ c.refuse.result refl c.refuse.ensures c.in-TooLong.is
+returns-in_default c = write_full _ c.in_default.ensures c.refuse.result c.refuse.ensures
 
-pub returns-in-Bytes : goal.returns-in-Bytes
+pub returns : goal.returns
 unfolding longest
-returns-in-Bytes c = write_done _ c.write_normal_text.result c.write_normal_text.ensures _ refl c.in-Bytes.is
+returns c = write_done _ c.in-Ok.ensures

@@ -21,13 +21,13 @@ pub returns-in_default : goal.returns-in_default
 returns-in_default c = sym (check-bad _ _ c.loop-at-test.true (sym c.decode_wide.ensures ∙ c.in_default.is)) ∙ c.loop-at.invariant
 
 pub overflow_add-at : goal.overflow_add-at
-overflow_add-at c = let f = scalar_fits _ _ (sym c.decode_wide.ensures ∙ c.in-Scalar.is) in omega arith
+overflow_add-at c = let f = scalar_fits _ _ (sym c.decode_wide.ensures ∙ c.in-Some.is) in omega arith
 
 pub loop-at-smaller : goal.loop-at-smaller
-loop-at-smaller c = let f = scalar_fits _ _ (sym c.decode_wide.ensures ∙ c.in-Scalar.is) in omega arith
+loop-at-smaller c = let f = scalar_fits _ _ (sym c.decode_wide.ensures ∙ c.in-Some.is) in omega arith
 
 pub loop-at-preserved : goal.loop-at-preserved
-loop-at-preserved c = sym (check-on _ _ (sym c.decode_wide.ensures ∙ c.in-Scalar.is)) ∙ c.loop-at.invariant
+loop-at-preserved c = sym (check-on _ _ (sym c.decode_wide.ensures ∙ c.in-Some.is)) ∙ c.loop-at.invariant
 
 pub returns : goal.returns
 returns c = sym (check-end _ _ c.loop-at-test.false) ∙ c.loop-at.invariant

@@ -1,18 +1,19 @@
 -- `characters::decode` meets its contract. Assumes nothing.
-use mathlib.Core.Path.{sym}
-use lib.ListN.{drop_of_length-le}
+use mathlib.Core.Path.{sym, ◌∙◌}
+use Prim.Native.Nat.{◌<◌}
+use lib.ListN.{drop_of_length-le, length}
+use borrow.Author.Tests.{ltb-true, ltb-false}
+use Rattle.std.proofs.lemmas.Grind.{get_or_default_zero}
 use Rattle.characters.specs.Utf8.{first_char}
 use Rattle.characters.specs.Places.{decode_at}
-use Rattle.characters.proofs.Laws.{ascii-at}
-use native.Mathlib.Omega.{arith}
+use Rattle.characters.proofs.Laws.{ascii-by}
 use Rattle.characters.proofs.decode.Goals as goal
 
-pub returns-then-text-at : goal.returns-then-text-at
+pub returns-in_err-a : goal.returns-in_err-a
 unfolding decode_at first_char
-returns-then-text-at c = simp (drop_of_length-le c.args.text.now c.if-text-at.true)
-
-pub overflow_cast-a : goal.overflow_cast-a
-overflow_cast-a c = omega (arith, c.shared_slice_known-2-1.given c.args.at)
+returns-in_err-a c = rw c.from_residual.ensures (simp (drop_of_length-le c.args.text.now (ltb-false _ _ (sym c.in_err-a.ensures.lookup.0))))
 
 pub returns-then-a-lt128 : goal.returns-then-a-lt128
-returns-then-a-lt128 c = sym (ascii-at _ _ c.if-text-at.false c.if-a-lt128.true)
+returns-then-a-lt128 c =
+    let l : c.args.at < length c.args.text.now = ltb-true _ _ (sym c.in_ok-a.ensures.lookup.0) in
+    ascii-by _ _ _ l (c.in_ok-a.ensures.lookup.1 ∙ get_or_default_zero _ _ _ l) c.if-a-lt128.true

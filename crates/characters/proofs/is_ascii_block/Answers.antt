@@ -1,20 +1,17 @@
 -- `characters::is_ascii_block` meets its contract. Assumes nothing.
-use Prim.Native.Nat.{◌+◌}
-use mathlib.Core.Path.{◌≡◌, refl}
+use mathlib.Core.Path.{refl}
+use native.Mathlib.Omega.{arith}
+use lib.Seq.{take_all}
 use Rattle.basics.specs.Basics.{every}
 use Rattle.characters.proofs.Skips.{high-more}
-use native.Mathlib.Omega.{arith}
 use Rattle.characters.proofs.is_ascii_block.Goals as goal
 
-pub loop-k-init : goal.loop-k-init
+pub loop-b-init : goal.loop-b-init
 unfolding every
-loop-k-init c = (omega arith, omega arith, refl)
+loop-b-init c = (omega arith, refl)
 
-pub overflow_add-high-in-loop-k : goal.overflow_add-high-in-loop-k
-overflow_add-high-in-loop-k c = omega (arith, c.shared_slice_known-1.given (c.args.at + c.loop-k.k))
-
-pub loop-k-preserved : goal.loop-k-preserved
-loop-k-preserved c = (omega arith, omega (arith, c.shared_slice_known-1.given (c.args.at + c.loop-k.k)), high-more c.args.text.now c.args.at c.loop-k.k c.loop-k.high (omega arith) c.loop-k.invariant.2)
+pub loop-b-preserved : goal.loop-b-preserved
+loop-b-preserved c = (omega (arith, c.type_inv.block c.loop-b.b-index), high-more c.args.block.now c.loop-b.b-index c.loop-b.high c.loop-b-test.true c.loop-b.invariant.1)
 
 pub returns : goal.returns
-returns c = let q : c.loop-k.k ≡ 128 = omega arith in rw q at c.loop-k.invariant.2
+returns c = rw (take_all c.loop-b.b-index c.args.block.now c.loop-b-test.false) at c.loop-b.invariant.1

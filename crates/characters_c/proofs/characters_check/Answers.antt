@@ -2,8 +2,8 @@
 use mathlib.Core.Path.{sym, ◌∙◌}
 use Rattle.characters_c.proofs.characters_check.Goals as goal
 
-pub returns-in_default : goal.returns-in_default
-returns-in_default c = rw (sym c.check.ensures ∙ c.in_default.is)
+pub returns-in-Ok : goal.returns-in-Ok
+returns-in-Ok c = rw (sym c.check.ensures ∙ c.in-Ok.is)
 
-pub returns : goal.returns
-returns c = rw (sym c.check.ensures ∙ c.in-IllAt.is)
+pub returns-in-Err : goal.returns-in-Err
+returns-in-Err c = rw (sym c.check.ensures ∙ c.in-Err.is)

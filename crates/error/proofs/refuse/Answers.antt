@@ -4,4 +4,4 @@ use Rattle.error.proofs.refuse.Goals as goal
 
 pub returns : goal.returns
 unfolding refusal_at
-returns c = rw (c.line_info-info.ensures.0, c.line_info-info.ensures.1)
+returns c = rw (c.line_info-line.ensures.0, c.line_info-line.ensures.1)

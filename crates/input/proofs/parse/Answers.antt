@@ -1,12 +1,12 @@
--- `parse` meets its contract: its parameters are plain, so the borrow checker's part walks the code.
+-- `parse` meets its contract.
 -- Assumes nothing.
 use mathlib.Core.Path.{refl}
+use Rattle.tokens.proofs.Stops.{stopped}
 use Rattle.reader.proofs.ParseLaws.{stopped-first, first-is}
-use Rattle.tokens.proofs.Told.{arrived_told}
 use Rattle.input.proofs.parse.Goals as goal
 
-pub returns-in_default : goal.returns-in_default
-returns-in_default c = (stopped-first _ _ c.arrive-first.ensures _ _ (arrived_told c.in_default.is c.cause.ensures c.place.ensures), refl, refl)
+pub returns-in_err-first : goal.returns-in_err-first
+returns-in_err-first c = rw (stopped c.from_residual.result c.from_residual.ensures.1) (stopped-first _ _ c.in_err-first.ensures, refl, refl)
 
-pub parse_at-requires : goal.parse_at-requires
-parse_at-requires c = (c.requires, first-is _ _ c.arrive-first.ensures c.in-At.is)
+pub parse-requires : goal.parse-requires
+parse-requires c = rw (c.new.ensures.0, c.new.ensures.1) (c.requires, first-is c.in_ok-first.ensures)

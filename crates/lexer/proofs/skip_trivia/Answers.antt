@@ -22,24 +22,24 @@ returns-in_default c = (
 )
 
 pub overflow_add-cursor : goal.overflow_add-cursor
-overflow_add-cursor c = let d = sym c.decode.ensures ∙ c.in-Scalar.is in
+overflow_add-cursor c = let d = sym c.decode.ensures ∙ c.in-Some.is in
     let f = scalar_fits _ _ d in
     omega arith
 
 pub space-smaller : goal.space-smaller
-space-smaller c = let d = sym c.decode.ensures ∙ c.in-Scalar.is in
+space-smaller c = let d = sym c.decode.ensures ∙ c.in-Some.is in
     let f = scalar_fits _ _ d in
     omega arith
 
 pub space-preserved : goal.space-preserved
-space-preserved c = let d = sym c.decode.ensures ∙ c.in-Scalar.is in
+space-preserved c = let d = sym c.decode.ensures ∙ c.in-Some.is in
     let f = scalar_fits _ _ d in (
       omega (arith, c.space.invariant.0),
       sym (space-on _ _ d (sym c.is_ecmascript_whitespace.ensures ∙ c.if-not-is_ecmascript_whitespace.false)) ∙ c.space.invariant.1,
     )
 
 pub returns-then-peek-ne47 : goal.returns-then-peek-ne47
-returns-then-peek-ne47 c = let d = sym c.decode.ensures ∙ c.in-Scalar.is in (
+returns-then-peek-ne47 c = let d = sym c.decode.ensures ∙ c.in-Some.is in (
   omega (arith, c.space.invariant.0, c.trivia.invariant.0),
   sym c.space.invariant.1,
   settled-other _ _ d (sym c.is_ecmascript_whitespace.ensures ∙ c.if-not-is_ecmascript_whitespace.true) (λ q. c.if-peek-ne47.true (c.peek.ensures ∙ q)),
@@ -68,28 +68,28 @@ trivia-preserved-in_default-decode c = (
 )
 
 pub trivia-smaller-then-is_line_terminator : goal.trivia-smaller-then-is_line_terminator
-trivia-smaller-then-is_line_terminator c = let d₂ = sym c.decode-in-line.ensures ∙ c.in-Scalar-decode.is in
+trivia-smaller-then-is_line_terminator c = let d₂ = sym c.decode-in-line.ensures ∙ c.in-Some-decode.is in
     let f = scalar_fits _ _ d₂ in
     omega (arith, c.line.invariant.0, c.space.invariant.0)
 
 pub trivia-preserved-then-is_line_terminator : goal.trivia-preserved-then-is_line_terminator
-trivia-preserved-then-is_line_terminator c = let d₂ = sym c.decode-in-line.ensures ∙ c.in-Scalar-decode.is in (
+trivia-preserved-then-is_line_terminator c = let d₂ = sym c.decode-in-line.ensures ∙ c.in-Some-decode.is in (
   omega (arith, c.line.invariant.0, c.space.invariant.0, c.trivia.invariant.0),
   ap (tokens_at _) (sym (run_off not_terminator _ _ d₂ (rw (sym c.is_line_terminator.ensures ∙ c.if-is_line_terminator.true)))) ∙ c.line.invariant.2,
 )
 
 pub overflow_add-cursor-in-line : goal.overflow_add-cursor-in-line
-overflow_add-cursor-in-line c = let d₂ = sym c.decode-in-line.ensures ∙ c.in-Scalar-decode.is in
+overflow_add-cursor-in-line c = let d₂ = sym c.decode-in-line.ensures ∙ c.in-Some-decode.is in
     let f = scalar_fits _ _ d₂ in
     omega arith
 
 pub line-smaller : goal.line-smaller
-line-smaller c = let d₂ = sym c.decode-in-line.ensures ∙ c.in-Scalar-decode.is in
+line-smaller c = let d₂ = sym c.decode-in-line.ensures ∙ c.in-Some-decode.is in
     let f = scalar_fits _ _ d₂ in
     omega arith
 
 pub line-preserved : goal.line-preserved
-line-preserved c = let d₂ = sym c.decode-in-line.ensures ∙ c.in-Scalar-decode.is in
+line-preserved c = let d₂ = sym c.decode-in-line.ensures ∙ c.in-Some-decode.is in
     let f = scalar_fits _ _ d₂ in (
       omega (arith, c.line.invariant.0),
       omega arith,
@@ -97,7 +97,7 @@ line-preserved c = let d₂ = sym c.decode-in-line.ensures ∙ c.in-Scalar-decod
     )
 
 pub returns-then-d-ne42 : goal.returns-then-d-ne42
-returns-then-d-ne42 c = let d = sym c.decode.ensures ∙ c.in-Scalar.is in (
+returns-then-d-ne42 c = let d = sym c.decode.ensures ∙ c.in-Some.is in (
   omega (arith, c.space.invariant.0, c.trivia.invariant.0),
   sym c.space.invariant.1,
   settled_slash _ _ d (sym c.is_ecmascript_whitespace.ensures ∙ c.if-not-is_ecmascript_whitespace.true) (sym c.peek.ensures ∙ c.if-peek-ne47.false) (λ q. c.if-d-eq47.false (c.peek-d.ensures ∙ q)) (λ q. c.if-d-ne42.true (c.peek-d.ensures ∙ q)),
@@ -118,19 +118,19 @@ pub returns-in_default-decode-2 : goal.returns-in_default-decode-2
 returns-in_default-decode-2 c = sym c.block.invariant.2 ∙ block-end _ _ _ (sym c.decode-in-block.ensures ∙ c.in_default-decode-2.is)
 
 pub overflow_add-cursor-in-block : goal.overflow_add-cursor-in-block
-overflow_add-cursor-in-block c = let f = scalar_fits _ _ (sym c.decode-in-block.ensures ∙ c.in-Scalar-decode-2.is) in omega arith
+overflow_add-cursor-in-block c = let f = scalar_fits _ _ (sym c.decode-in-block.ensures ∙ c.in-Some-decode-2.is) in omega arith
 
 pub overflow_add-cursor-then-peek-eq47 : goal.overflow_add-cursor-then-peek-eq47
 overflow_add-cursor-then-peek-eq47 c = let f = shut_inside _ _ (sym c.peek-then-e-eq42.ensures ∙ c.if-peek-eq47.true) in omega arith
 
 pub trivia-smaller : goal.trivia-smaller
-trivia-smaller c = let d₃ = sym c.decode-in-block.ensures ∙ c.in-Scalar-decode-2.is in
+trivia-smaller c = let d₃ = sym c.decode-in-block.ensures ∙ c.in-Some-decode-2.is in
     let f = scalar_fits _ _ d₃ in
     let g = shut_inside _ _ (sym c.peek-then-e-eq42.ensures ∙ c.if-peek-eq47.true) in
     omega (arith, c.block.invariant.0, c.space.invariant.0)
 
 pub trivia-preserved : goal.trivia-preserved
-trivia-preserved c = let d₃ = sym c.decode-in-block.ensures ∙ c.in-Scalar-decode-2.is in
+trivia-preserved c = let d₃ = sym c.decode-in-block.ensures ∙ c.in-Some-decode-2.is in
     let f = scalar_fits _ _ d₃ in
     let g = shut_inside _ _ (sym c.peek-then-e-eq42.ensures ∙ c.if-peek-eq47.true) in (
       omega (arith, c.block.invariant.0, c.space.invariant.0, c.trivia.invariant.0),
@@ -138,12 +138,12 @@ trivia-preserved c = let d₃ = sym c.decode-in-block.ensures ∙ c.in-Scalar-de
     )
 
 pub block-smaller-else-peek-eq47 : goal.block-smaller-else-peek-eq47
-block-smaller-else-peek-eq47 c = let d₃ = sym c.decode-in-block.ensures ∙ c.in-Scalar-decode-2.is in
+block-smaller-else-peek-eq47 c = let d₃ = sym c.decode-in-block.ensures ∙ c.in-Some-decode-2.is in
     let f = scalar_fits _ _ d₃ in
     omega arith
 
 pub block-preserved-else-peek-eq47 : goal.block-preserved-else-peek-eq47
-block-preserved-else-peek-eq47 c = let d₃ = sym c.decode-in-block.ensures ∙ c.in-Scalar-decode-2.is in
+block-preserved-else-peek-eq47 c = let d₃ = sym c.decode-in-block.ensures ∙ c.in-Some-decode-2.is in
     let f = scalar_fits _ _ d₃ in (
       omega (arith, c.block.invariant.0),
       omega arith,
@@ -151,12 +151,12 @@ block-preserved-else-peek-eq47 c = let d₃ = sym c.decode-in-block.ensures ∙ 
     )
 
 pub block-smaller : goal.block-smaller
-block-smaller c = let d₃ = sym c.decode-in-block.ensures ∙ c.in-Scalar-decode-2.is in
+block-smaller c = let d₃ = sym c.decode-in-block.ensures ∙ c.in-Some-decode-2.is in
     let f = scalar_fits _ _ d₃ in
     omega arith
 
 pub block-preserved : goal.block-preserved
-block-preserved c = let d₃ = sym c.decode-in-block.ensures ∙ c.in-Scalar-decode-2.is in
+block-preserved c = let d₃ = sym c.decode-in-block.ensures ∙ c.in-Some-decode-2.is in
     let f = scalar_fits _ _ d₃ in (
       omega (arith, c.block.invariant.0),
       omega arith,

@@ -4,7 +4,7 @@ use Rattle.notation.specs.Parser.{size, until_step, eat, comma}
 use Rattle.notation.specs.Expressions.{choice_at}
 use Rattle.tokens.specs.Promise.{stream}
 use Rattle.tree.specs.Stored.{expression_branch}
-use Rattle.parser.specs.Storing.{lent, nodes_of}
+use Rattle.parser.specs.Storing.{lent_of, Kept, nodes_of}
 use Rattle.parser.proofs.Lists.{Listing}
 use Rattle.parser.proofs.Itemizing.{Arming}
 use Rattle.parser.proofs.Itemizing.{Itemizing}
@@ -68,20 +68,32 @@ decreases-specialize l = rank l.source.now l.token 12
 abbrev pub decreases-word : goal.decreases-word
 decreases-word l = rank l.source.now l.token 13
 
-abbrev pub invariant-arms-loop-cause : goal.invariant-arms-loop-cause
-invariant-arms-loop-cause l = Arming (choice_at l.left) l.source l.initial.t (lent l.n l.initial.records l.x l.initial.texts) l.t (lent l.m l.records l.y l.texts) l.count l.empty
+abbrev pub invariant-arms-loop-bar : goal.invariant-arms-loop-bar
+invariant-arms-loop-bar l =
+    record {
+      kept : Kept l.initial.store l.store;
+      arming : Arming (choice_at l.left) l.source l.initial.t (lent_of l.initial.store) l.t (lent_of l.store) l.count l.empty;
+    }
 
-abbrev pub decreases-arms-loop-cause : goal.decreases-arms-loop-cause
-decreases-arms-loop-cause l = size (stream l.source l.t)
+abbrev pub decreases-arms-loop-bar : goal.decreases-arms-loop-bar
+decreases-arms-loop-bar l = size (stream l.source l.t)
 
-abbrev pub invariant-items-loop-cause : goal.invariant-items-loop-cause
-invariant-items-loop-cause l = Itemizing (choice_at l.left) l.source l.initial.t (lent l.n l.initial.records l.x l.initial.texts) l.t (lent l.m l.records l.y l.texts) l.markers l.expressions l.p l.shape
+abbrev pub invariant-items-loop-after : goal.invariant-items-loop-after
+invariant-items-loop-after l =
+    record {
+      kept : Kept l.initial.store l.store;
+      itemizing : Itemizing (choice_at l.left) l.source l.initial.t (lent_of l.initial.store) l.t (lent_of l.store) l.markers l.expressions l.start l.shape;
+    }
 
-abbrev pub decreases-items-loop-cause : goal.decreases-items-loop-cause
-decreases-items-loop-cause l = size (stream l.source l.t)
+abbrev pub decreases-items-loop-after : goal.decreases-items-loop-after
+decreases-items-loop-after l = size (stream l.source l.t)
 
-abbrev pub invariant-list-loop-u : goal.invariant-list-loop-u
-invariant-list-loop-u l = Listing (until_step (eat ">") comma (λ _. choice_at l.left)) (nodes_of expression_branch) l.source l.initial.t 2 (lent l.n l.initial.records l.x l.initial.texts) l.t (lent l.m l.records l.y l.texts) l.count
+abbrev pub invariant-list-loop-after : goal.invariant-list-loop-after
+invariant-list-loop-after l =
+    record {
+      kept : Kept l.initial.store l.store;
+      listing : Listing (until_step (eat ">") comma (λ _. choice_at l.left)) (nodes_of expression_branch) l.source l.initial.t 2 (lent_of l.initial.store) l.t (lent_of l.store) l.count;
+    }
 
-abbrev pub decreases-list-loop-u : goal.decreases-list-loop-u
-decreases-list-loop-u l = size (stream l.source l.t) + (1 - l.count)
+abbrev pub decreases-list-loop-after : goal.decreases-list-loop-after
+decreases-list-loop-after l = size (stream l.source l.t) + (1 - l.count)

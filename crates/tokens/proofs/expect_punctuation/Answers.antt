@@ -1,12 +1,13 @@
 -- `tokens::expect_punctuation` meets its contract. Assumes nothing.
+use Rattle.tokens.proofs.Stops.{stopped}
 use Rattle.tokens.proofs.Stream.{expect_yes, expect_no, expect-refused}
 use Rattle.tokens.proofs.expect_punctuation.Goals as goal
 
-pub returns-in-Yes : goal.returns-in-Yes
-returns-in-Yes c = expect_yes _ _ _ _ c.eat_punctuation.ensures c.in-Yes.is
+pub returns-in_err-after : goal.returns-in_err-after
+returns-in_err-after c = rw (stopped c.from_residual.result c.from_residual.ensures.1) (expect-refused _ _ _ c.in_err-after.ensures)
 
-pub returns-in-No : goal.returns-in-No
-returns-in-No c = expect_no _ _ _ _ c.eat_punctuation.ensures c.in-No.is c.start.ensures
+pub returns-in_default : goal.returns-in_default
+returns-in_default c = expect_no _ _ _ (rw c.in_default.is at c.in_ok-after.ensures) c.unexpected.ensures
 
-pub returns-in-Refused : goal.returns-in-Refused
-returns-in-Refused c = expect-refused _ _ _ _ c.eat_punctuation.ensures c.in-Refused.is
+pub returns : goal.returns
+returns c = expect_yes _ _ _ (rw c.in-Some.is at c.in_ok-after.ensures)

@@ -2,8 +2,8 @@
 use Rattle.tokens.proofs.Stream.{next-token, next-end}
 use Rattle.tokens.proofs.next.Goals as goal
 
-pub returns-in-Token : goal.returns-in-Token
-returns-in-Token c = next-token _ _ _ _ _ c.arrive.result c.in-Token.is c.arrive.ensures
+pub returns-in-Of : goal.returns-in-Of
+returns-in-Of c = next-token _ _ c.in-Of.is c.arrive.ensures
 
-pub returns-in-End : goal.returns-in-End
-returns-in-End c = next-end _ _ _ c.in-End.is
+pub returns-in-Eof : goal.returns-in-Eof
+returns-in-Eof c = next-end _ c.in-Eof.is

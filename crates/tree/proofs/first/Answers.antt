@@ -14,10 +14,10 @@ pub word-requires : goal.word-requires
 word-requires c = (omega arith, omega arith)
 
 pub overflow_add-need : goal.overflow_add-need
-overflow_add-need c = omega (arith, c.wide.ensures)
+overflow_add-need c = omega arith
 
 pub loop-need-preserved : goal.loop-need-preserved
-loop-need-preserved c = (omega arith, rw (c.wide.ensures, c.word.ensures) (sym (first_step _ _ _ c.loop-need-test.true c.if-i-need.false) ∙ c.loop-need.invariant.1))
+loop-need-preserved c = (omega arith, rw c.word.ensures (sym (first_step _ _ _ c.loop-need-test.true c.if-i-need.false) ∙ c.loop-need.invariant.1))
 
 pub returns : goal.returns
 returns c = let e : c.loop-need.need ≡ 0 = omega arith in sym (first-none _ _) ∙ rw e at c.loop-need.invariant.1

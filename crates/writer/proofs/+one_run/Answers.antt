@@ -9,23 +9,23 @@ use Rattle.writer.proofs.+one_run.Goals as goal
 
 pub one-run-n-requires : goal.one-run-n-requires
 one-run-n-requires t c = (
-  omega (arith, c.decreases, c.children.ensures, run-few c.requires.3, c.requires.0.few),
-  (c.requires.0, c.requires.2, omega arith, recount c.children.ensures c.requires.3),
+  omega (arith, c.decreases, c.children.ensures.value, run-few c.requires.3, c.requires.0.few),
+  (c.requires.0, c.requires.2, omega arith, recount c.children.ensures.value c.requires.3),
 )
 
 pub one-overflow_add-n : goal.one-overflow_add-n
 one-overflow_add-n t c =
-    let kids = recount c.children.ensures c.requires.3 in
+    let kids = recount c.children.ensures.value c.requires.3 in
     omega (arith, c.requires.0.few, bounded c.put_front-n.ensures (front-small _ _ _), row_small c.requires.0 c.args.parent, row_small c.requires.0 c.args.i, run_small c.requires.0 _ _ kids (c.run-n.ensures kids))
 
 pub one-overflow_add-result : goal.one-overflow_add-result
 one-overflow_add-result t c =
-    let kids = recount c.children.ensures c.requires.3 in
+    let kids = recount c.children.ensures.value c.requires.3 in
     omega (arith, c.requires.0.few, bounded c.put_front-n.ensures (front-small _ _ _), row_small c.requires.0 c.args.parent, row_small c.requires.0 c.args.i, run_small c.requires.0 _ _ kids (c.run-n.ensures kids), bounded c.put_back.ensures (back-small _ _ _))
 
 pub one-returns : goal.one-returns
 one-returns t c = λ s.
-    rw (branch-says _ _ _ s) (then (then c.put_front-n.ensures c.upto-a.ensures (c.run-n.ensures (recount c.children.ensures s))) c.upto-b.ensures c.put_back.ensures)
+    rw (branch-says _ _ _ s) (then (then c.put_front-n.ensures c.upto-a.ensures (c.run-n.ensures (recount c.children.ensures.value s))) c.upto-b.ensures c.put_back.ensures)
 
 pub run-returns-then-count-eq0 : goal.run-returns-then-count-eq0
 run-returns-then-count-eq0 t c = λ s. rw (text-none _ _ s c.if-count-eq0.true) (wrote_none _)
@@ -51,8 +51,8 @@ run-run-n-requires t c =
       (c.requires.0, c.requires.1, omega (arith, c.requires.2, c.first-mid.ensures, m, low), left s half (omega arith) (c.first-mid.ensures ∙ m)),
     )
 
-pub run-kind_before-requires : goal.run-kind_before-requires
-run-kind_before-requires t c =
+pub run-class_before-requires : goal.run-class_before-requires
+run-class_before-requires t c =
     let s = c.requires.3 in
     let half = c.args.count / 2 in
     omega (arith, c.requires.2, c.first-mid.ensures, mid-first s half (omega arith), mid-low s half (omega arith) (omega arith))
@@ -73,4 +73,4 @@ pub run-returns : goal.run-returns
 run-returns t c =
     let half = c.args.count / 2 in
     λ s. let m = c.first-mid.ensures ∙ mid-first s half (omega arith) in
-    rw (halves s half (omega arith) _ _ m (omega arith)) (then (c.run-n.ensures (left s half (omega arith) m)) c.upto-a.ensures (rw (c.class.ensures, c.kind_before.ensures) at (c.run.ensures (right s half (omega arith)))))
+    rw (halves s half (omega arith) _ _ m (omega arith)) (then (c.run-n.ensures (left s half (omega arith) m)) c.upto-a.ensures (rw c.class_before.ensures at (c.run.ensures (right s half (omega arith)))))

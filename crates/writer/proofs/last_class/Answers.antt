@@ -9,4 +9,4 @@ returns-then-word-eq0 c = rw (← c.word.ensures, c.if-word-eq0.true)
 
 pub returns : goal.returns
 unfolding last_at
-returns c = rw (c.class.ensures, c.kind_before.ensures, ← c.word.ensures, ne_eqb _ _ c.if-word-eq0.false)
+returns c = rw (c.class_before.ensures, ← c.word.ensures, ne_eqb _ _ c.if-word-eq0.false)

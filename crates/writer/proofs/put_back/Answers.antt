@@ -6,13 +6,11 @@ use Rattle.writer.proofs.Small.{bounded, close-small, ends-small, tail-small}
 use Rattle.writer.proofs.put_back.Goals as goal
 
 pub overflow_add-n : goal.overflow_add-n
-unfolding back
-overflow_add-n c = omega (arith, bounded c.put_close-n.ensures (close-small _ _ _), bounded c.put_ends-n.ensures (ends-small _ _ _))
+overflow_add-n c = omega (arith, bounded (rw c.close.ensures at c.put-n.ensures) (close-small _ _ _), bounded (rw c.ends.ensures at c.put-n-2.ensures) (ends-small _ _ _))
 
 pub overflow_add-result : goal.overflow_add-result
-unfolding back
-overflow_add-result c = omega (arith, bounded c.put_close-n.ensures (close-small _ _ _), bounded c.put_ends-n.ensures (ends-small _ _ _), bounded c.put_tail.ensures (tail-small _ _))
+overflow_add-result c = omega (arith, bounded (rw c.close.ensures at c.put-n.ensures) (close-small _ _ _), bounded (rw c.ends.ensures at c.put-n-2.ensures) (ends-small _ _ _), bounded (rw c.tail.ensures at c.put.ensures) (tail-small _ _))
 
 pub returns : goal.returns
 unfolding back
-returns c = then (then (rw (c.word-kind.ensures, c.word-value.ensures, c.last_class.ensures) at c.put_close-n.ensures) c.upto-a.ensures (rw (c.setting.ensures, c.word-above.ensures, c.word-kind.ensures, c.word-value.ensures) at c.put_ends-n.ensures)) c.upto-b.ensures (rw (c.class.ensures, c.word-above.ensures, c.word-kind.ensures) at c.put_tail.ensures)
+returns c = then (then (rw (c.close.ensures, c.kind-own.ensures, c.word-value.ensures, c.last_class.ensures) at c.put-n.ensures) c.upto-a.ensures (rw (c.ends.ensures, c.setting_of.ensures, c.kind-above.ensures, c.kind-own.ensures, c.word-value.ensures) at c.put-n-2.ensures)) c.upto-b.ensures (rw (c.tail.ensures, c.class.ensures, c.kind-above.ensures, c.kind-own.ensures) at c.put.ensures)

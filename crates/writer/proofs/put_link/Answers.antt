@@ -5,14 +5,9 @@ use Rattle.output.proofs.Writes.{then}
 use Rattle.writer.proofs.Small.{bounded, row_small, between-small, source-small}
 use Rattle.writer.proofs.put_link.Goals as goal
 
-pub put_source-requires : goal.put_source-requires
-unfolding link
-put_source-requires c = c.requires
-
 pub overflow_add-result : goal.overflow_add-result
-unfolding link
 overflow_add-result c = omega (arith, bounded c.put_between-n.ensures (between-small _ _ _), bounded c.put_source.ensures (source-small _ _), row_small c.requires.0 c.args.parent)
 
 pub returns : goal.returns
 unfolding link
-returns c = then (rw c.word.ensures at c.put_between-n.ensures) c.upto-a.ensures c.put_source.ensures
+returns c = then (rw c.kind.ensures at c.put_between-n.ensures) c.upto-a.ensures c.put_source.ensures

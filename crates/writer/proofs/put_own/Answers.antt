@@ -5,18 +5,12 @@ use Rattle.output.proofs.Writes.{then}
 use Rattle.writer.proofs.Small.{bounded, row_small, before_small, spelled-small, after_small}
 use Rattle.writer.proofs.put_own.Goals as goal
 
-pub put_spelled-n-requires : goal.put_spelled-n-requires
-unfolding own
-put_spelled-n-requires c = c.requires
-
 pub overflow_add-n : goal.overflow_add-n
-unfolding own
-overflow_add-n c = omega (arith, bounded c.put_before-n.ensures (before_small _ _), bounded c.put_spelled-n.ensures (spelled-small _), row_small c.requires.0 c.args.i)
+overflow_add-n c = omega (arith, bounded (rw c.before-2.ensures at c.put-n.ensures) (before_small _ _), bounded c.put_spelled-n.ensures (spelled-small _), row_small c.requires.0 c.args.i)
 
 pub overflow_add-result : goal.overflow_add-result
-unfolding own
-overflow_add-result c = omega (arith, bounded c.put_before-n.ensures (before_small _ _), bounded c.put_spelled-n.ensures (spelled-small _), row_small c.requires.0 c.args.i, bounded c.put_after.ensures (after_small _ _))
+overflow_add-result c = omega (arith, bounded (rw c.before-2.ensures at c.put-n.ensures) (before_small _ _), bounded c.put_spelled-n.ensures (spelled-small _), row_small c.requires.0 c.args.i, bounded (rw c.after.ensures at c.put.ensures) (after_small _ _))
 
 pub returns : goal.returns
 unfolding own
-returns c = then (then (rw (c.word-kind.ensures, c.word-value.ensures) at c.put_before-n.ensures) c.upto-a.ensures c.put_spelled-n.ensures) c.upto-b.ensures (rw (c.word-kind.ensures, c.word-value.ensures) at c.put_after.ensures)
+returns c = then (then (rw (c.before-2.ensures, c.kind-kind.ensures, c.word-value.ensures) at c.put-n.ensures) c.upto-a.ensures c.put_spelled-n.ensures) c.upto-b.ensures (rw (c.after.ensures, c.kind-kind.ensures, c.word-value.ensures) at c.put.ensures)

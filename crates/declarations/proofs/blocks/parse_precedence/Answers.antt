@@ -1,28 +1,28 @@
 -- `blocks::parse_precedence` meets its contract.
 -- Assumes nothing.
-use Rattle.tree.specs.Stored.{prec_item_branch}
+use Rattle.declarations.proofs.BlocksLaws.{precedence-block, prec_by, prec_nodes, made, next-refused, brace-refused, list_halt, list_onward, block_asks, block-given}
 use Rattle.declarations.specs.Promise.{precedence_branch}
 use Rattle.parser.proofs.Ready.{ready_step}
-use Rattle.parser.proofs.Openings.{listed, listed_not}
-use Rattle.declarations.proofs.BlocksLaws.{precedence-block, prec_by, prec_nodes, made, next-refused, brace-refused, list_halt, list_onward, block_asks, block-given}
-use Rattle.tokens.proofs.Told.{arrived_told}
-use Rattle.parser.proofs.Told.{listed_told}
+use Rattle.tokens.proofs.Stops.{stopped}
+use Rattle.tree.specs.Stored.{prec_item_branch}
 use Rattle.declarations.proofs.blocks.parse_precedence.Goals as goal
 
-pub returns-in_default : goal.returns-in_default
-returns-in_default c = next-refused (precedence-block _ c.args.token) _ c.next-arrived.ensures (arrived_told c.in_default.is c.cause.ensures c.place.ensures)
+pub returns-in_err-keyword-clause-parses : goal.returns-in_err-keyword-clause-parses
+returns-in_err-keyword-clause-parses c = rw (stopped c.from_residual.result c.from_residual.ensures.1) (next-refused (precedence-block _ c.args.token) c.in_err-keyword.ensures.0)
 
-pub returns-in_default-opened : goal.returns-in_default-opened
-returns-in_default-opened c = brace-refused (precedence-block _ c.args.token) _ c.next-arrived.ensures c.in-At.is _ c.expect_punctuation-opened.ensures (arrived_told c.in_default-opened.is c.cause-in_default-opened.ensures c.place-in_default-opened.ensures)
+pub returns-in_err-opened-clause-parses : goal.returns-in_err-opened-clause-parses
+returns-in_err-opened-clause-parses c = rw (stopped c.from_residual-in_err-opened.result c.from_residual-in_err-opened.ensures.1) (brace-refused (precedence-block _ c.args.token) c.in_ok-keyword.ensures c.in_err-opened.ensures)
 
-pub prec_items_list-listed-requires : goal.prec_items_list-listed-requires
-prec_items_list-listed-requires c = ready_step c.requires.0 (list_onward (precedence-block _ c.args.token) _ c.next-arrived.ensures c.in-At.is _ c.expect_punctuation-opened.ensures c.in-At-opened.is c.requires.1 c.requires.0.lies)
+pub prec_items_list-requires : goal.prec_items_list-requires
+prec_items_list-requires c = ready_step c.requires.0 (list_onward (precedence-block _ c.args.token) c.in_ok-keyword.ensures c.in_ok-opened.ensures c.requires.1 c.requires.0.lies)
 
-pub returns-in_default-listed : goal.returns-in_default-listed
-returns-in_default-listed c = list_halt (precedence-block _ c.args.token) _ c.next-arrived.ensures c.in-At.is _ c.expect_punctuation-opened.ensures c.in-At-opened.is (listed_not _ _ _ _ _ _ _ _ c.prec_items_list-listed.result c.prec_items_list-listed.ensures (listed_told c.in_default-listed.is c.cause-in_default-listed.ensures c.place-in_default-listed.ensures))
+pub returns-in_err-closed-clause-parses : goal.returns-in_err-closed-clause-parses
+returns-in_err-closed-clause-parses c = rw (stopped c.from_residual-in_err-closed.result c.from_residual-in_err-closed.ensures.1) (list_halt (precedence-block _ c.args.token) c.in_ok-keyword.ensures c.in_ok-opened.ensures c.in_err-closed.ensures.parses)
 
-pub put_plain-k-requires : goal.put_plain-k-requires
-put_plain-k-requires c = block_asks (precedence-block _ c.args.token) _ c.next-arrived.ensures c.in-At.is _ c.expect_punctuation-opened.ensures c.in-At-opened.is c.requires.0 c.requires.1 prec_item_branch (listed _ _ _ _ _ _ _ _ c.prec_items_list-listed.result c.prec_items_list-listed.ensures c.in-Done.is) c.start.ensures
+pub put_plain-requires : goal.put_plain-requires
+put_plain-requires c = block_asks (precedence-block _ c.args.token) c.in_ok-keyword.ensures c.in_ok-opened.ensures c.requires.0 c.requires.1 prec_item_branch c.in_ok-closed.ensures.parses c.start.ensures
 
-pub returns : goal.returns
-returns c = let l = (listed _ _ _ _ _ _ _ _ c.prec_items_list-listed.result c.prec_items_list-listed.ensures c.in-Done.is) in block-given (precedence-block _ c.args.token) _ c.next-arrived.ensures c.in-At.is _ c.expect_punctuation-opened.ensures c.in-At-opened.is c.requires.1 c.requires.0.lies prec_item_branch precedence_branch 20 l (prec_by _ l.items) (made _ _) (prec_nodes _ l.items) c.start.ensures c.put_plain-k.ensures
+pub returns-clause-parses : goal.returns-clause-parses
+returns-clause-parses c =
+    let l = c.in_ok-closed.ensures.parses in
+    block-given (precedence-block _ c.args.token) c.in_ok-keyword.ensures c.in_ok-opened.ensures c.requires.1 c.requires.0.lies prec_item_branch precedence_branch 20 l (prec_by _ l.items) (made _ _) (prec_nodes _ l.items) c.start.ensures c.put_plain.ensures.stores

@@ -1,47 +1,45 @@
 -- `lexer::escapes::decode_fixed_hex` meets its contract. Assumes nothing.
+use Prim.Native.Nat.{◌+◌, ◌-◌}
 use native.Mathlib.Omega.{arith}
-use mathlib.Core.Path.{refl, sym, ◌∙◌}
-use Rattle.lexer.proofs.Escaped.{digit_at_lem, greater, fixed-step, fixed_not, fixed-good, fixed-bad}
+use mathlib.Core.Path.{◌≡◌, sym, ◌∙◌}
+use Rattle.lexer.proofs.Escaped.{digit_at_lem, greater, fixed-step, fixed_not, fixed-end}
 use Rattle.lexer.proofs.escapes.decode_fixed_hex.Goals as goal
 
-pub loop-left-init : goal.loop-left-init
-loop-left-init c = (c.requires, omega arith, refl)
+pub loop-i-init : goal.loop-i-init
+loop-i-init c =
+    let e : c.args.from + 0 ≡ c.args.from = omega arith in
+    let f : c.args.k - 0 ≡ c.args.k = omega arith in
+    (omega arith, omega arith, rw (e, f))
 
-pub returns-in_default : goal.returns-in_default
-returns-in_default c = sym (fixed_not _ _ _ _ _ c.loop-left-test.true c.peek.ensures (sym c.in_default.is ∙ c.hex_digit.ensures))
-    ∙ c.loop-left.invariant.2
+pub returns-in_err-d : goal.returns-in_err-d
+returns-in_err-d c =
+    c.from_residual.ensures ∙ sym (fixed_not _ _ (c.args.k - c.loop-i.i) _ _ (omega arith) c.peek.ensures (sym c.in_err-d.was ∙ c.hex_digit.ensures))
+    ∙ c.loop-i.invariant.2
 
 pub overflow_mul-v : goal.overflow_mul-v
-overflow_mul-v c = let g = (digit_at_lem _ _ _ _ c.peek.ensures (sym c.in-Is.is ∙ c.hex_digit.ensures)) in
-    let i = g.next.inside in
-    let z = g.small in
-    let q = greater _ _ _ c.loop-left-test.true c.loop-left.invariant.0 c.loop-left.invariant.1 z in
+overflow_mul-v c =
+    let z = (digit_at_lem _ _ _ _ c.peek.ensures (sym c.in_ok-d.was ∙ c.hex_digit.ensures)).small in
+    let q = greater (c.args.k - c.loop-i.i) _ _ (omega arith) (omega arith) c.loop-i.invariant.1 z in
     omega arith
 
 pub overflow_add-v : goal.overflow_add-v
-overflow_add-v c = let g = (digit_at_lem _ _ _ _ c.peek.ensures (sym c.in-Is.is ∙ c.hex_digit.ensures)) in
-    let i = g.next.inside in
-    let z = g.small in
-    let q = greater _ _ _ c.loop-left-test.true c.loop-left.invariant.0 c.loop-left.invariant.1 z in
+overflow_add-v c =
+    let z = (digit_at_lem _ _ _ _ c.peek.ensures (sym c.in_ok-d.was ∙ c.hex_digit.ensures)).small in
+    let q = greater (c.args.k - c.loop-i.i) _ _ (omega arith) (omega arith) c.loop-i.invariant.1 z in
     omega arith
 
-pub overflow_add-at : goal.overflow_add-at
-overflow_add-at c = let g = (digit_at_lem _ _ _ _ c.peek.ensures (sym c.in-Is.is ∙ c.hex_digit.ensures)) in
-    let i = g.next.inside in
-    let z = g.small in
-    omega arith
-
-pub loop-left-preserved : goal.loop-left-preserved
-loop-left-preserved c = let g = (digit_at_lem _ _ _ _ c.peek.ensures (sym c.in-Is.is ∙ c.hex_digit.ensures)) in
-    let i = g.next.inside in
-    let z = g.small in (
-      omega (arith, c.loop-left.invariant.0),
-      (greater _ _ _ c.loop-left-test.true c.loop-left.invariant.0 c.loop-left.invariant.1 z).0,
-      sym (fixed-step _ _ _ _ _ _ c.loop-left-test.true g) ∙ c.loop-left.invariant.2,
-    )
-
-pub returns-then-is_scalar : goal.returns-then-is_scalar
-returns-then-is_scalar c = sym (fixed-good _ _ _ _ (omega arith) (sym c.is_scalar.ensures ∙ c.if-is_scalar.true)) ∙ c.loop-left.invariant.2
+pub loop-i-preserved : goal.loop-i-preserved
+loop-i-preserved c =
+    let g = digit_at_lem _ _ _ _ c.peek.ensures (sym c.in_ok-d.was ∙ c.hex_digit.ensures) in
+    let n = g.next.inside in
+    let q = greater (c.args.k - c.loop-i.i) _ _ (omega arith) (omega arith) c.loop-i.invariant.1 g.small in
+    let e : c.args.k - (c.loop-i.i + 1) ≡ c.args.k - c.loop-i.i - 1 = omega arith in
+    let f : c.args.from + (c.loop-i.i + 1) ≡ c.args.from + c.loop-i.i + 1 = omega arith in
+    rw (e, f) (omega arith, q.0, sym (fixed-step _ _ _ _ _ _ (omega arith) g) ∙ c.loop-i.invariant.2)
 
 pub returns : goal.returns
-returns c = sym (fixed-bad _ _ _ _ (omega arith) (sym c.is_scalar.ensures ∙ c.if-is_scalar.false)) ∙ c.loop-left.invariant.2
+returns c =
+    let e : c.args.k - c.loop-i.i ≡ 0 = omega arith in
+    let f : c.loop-i.i ≡ c.args.k = omega arith in
+    let h = rw (e, f) at c.loop-i.invariant.2 in
+    c.then_some.ensures ∙ sym (fixed-end _ _ _ _ c.is_scalar.ensures) ∙ h

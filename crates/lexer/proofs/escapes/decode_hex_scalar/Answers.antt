@@ -1,48 +1,36 @@
 -- `lexer::escapes::decode_hex_scalar` meets its contract. Assumes nothing.
 use native.Mathlib.Omega.{arith}
-use mathlib.Core.Path.{refl, sym, ◌∙◌}
-use Rattle.lexer.proofs.Escaped.{digit_at_lem, brace-inside, until-good, until-bad, until_not, until-step, until-big}
+use mathlib.Core.Path.{sym, ◌∙◌}
+use Rattle.lexer.proofs.Escaped.{digit_at_lem, brace-inside, until-end, until_not, until-step, until-big}
 use Rattle.lexer.proofs.escapes.decode_hex_scalar.Goals as goal
 
-pub loop-from-init : goal.loop-from-init
-loop-from-init c = (omega arith, refl)
-
-pub overflow_add-result : goal.overflow_add-result
-overflow_add-result c = let i = brace-inside _ _ _ c.peek-c.ensures c.if-c-eq125.true in omega arith
-
-pub returns-then-is_scalar : goal.returns-then-is_scalar
-returns-then-is_scalar c = sym (until-good _ _ _ _ c.peek-c.ensures c.if-c-eq125.true (sym c.is_scalar.ensures ∙ c.if-is_scalar.true))
-    ∙ c.loop-from.invariant.1
+pub overflow_add-at : goal.overflow_add-at
+overflow_add-at c = let i = brace-inside _ _ _ c.peek-c.ensures c.if-c-eq125.true in omega arith
 
 pub returns-then-c-eq125 : goal.returns-then-c-eq125
-returns-then-c-eq125 c = sym (until-bad _ _ _ _ c.peek-c.ensures c.if-c-eq125.true (sym c.is_scalar.ensures ∙ c.if-is_scalar.false))
-    ∙ c.loop-from.invariant.1
+returns-then-c-eq125 c = c.then_some.ensures ∙ sym (until-end _ _ _ _ c.peek-c.ensures c.if-c-eq125.true _ c.is_scalar.ensures) ∙ c.loop-from.invariant.1
 
-pub returns-in_default : goal.returns-in_default
-returns-in_default c = sym (until_not _ _ _ _ c.peek-c.ensures c.if-c-eq125.false (sym c.in_default.is ∙ c.hex_digit.ensures))
-    ∙ c.loop-from.invariant.1
-
-pub overflow_mul-v : goal.overflow_mul-v
-overflow_mul-v c = omega (arith, c.loop-from.invariant.0)
+pub returns-in_err-d : goal.returns-in_err-d
+returns-in_err-d c = rw c.from_residual.ensures (sym (until_not _ _ _ _ c.peek-c.ensures c.if-c-eq125.false (sym c.in_err-d.was ∙ c.hex_digit.ensures)) ∙ c.loop-from.invariant.1)
 
 pub overflow_add-v : goal.overflow_add-v
-overflow_add-v c = let g = (digit_at_lem _ _ _ _ c.peek-c.ensures (sym c.in-Is.is ∙ c.hex_digit.ensures)) in
+overflow_add-v c = let g = (digit_at_lem _ _ _ _ c.peek-c.ensures (sym c.in_ok-d.was ∙ c.hex_digit.ensures)) in
     let i = g.next.inside in
     let z = g.small in
     omega (arith, c.loop-from.invariant.0)
 
 pub returns-then-v-ge1114112 : goal.returns-then-v-ge1114112
-returns-then-v-ge1114112 c = sym (until-step _ _ _ _ _ (digit_at_lem _ _ _ _ c.peek-c.ensures (sym c.in-Is.is ∙ c.hex_digit.ensures)) ∙ until-big _ _ _ c.if-v-ge1114112.true)
+returns-then-v-ge1114112 c = sym (until-step _ _ _ _ _ (digit_at_lem _ _ _ _ c.peek-c.ensures (sym c.in_ok-d.was ∙ c.hex_digit.ensures)) ∙ until-big _ _ _ c.if-v-ge1114112.true)
     ∙ c.loop-from.invariant.1
 
-pub overflow_add-at : goal.overflow_add-at
-overflow_add-at c = let g = (digit_at_lem _ _ _ _ c.peek-c.ensures (sym c.in-Is.is ∙ c.hex_digit.ensures)) in
+pub overflow_add-at-in-loop-from : goal.overflow_add-at-in-loop-from
+overflow_add-at-in-loop-from c = let g = (digit_at_lem _ _ _ _ c.peek-c.ensures (sym c.in_ok-d.was ∙ c.hex_digit.ensures)) in
     let i = g.next.inside in
     let z = g.small in
     omega arith
 
 pub loop-from-smaller : goal.loop-from-smaller
-loop-from-smaller c = let g = (digit_at_lem _ _ _ _ c.peek-c.ensures (sym c.in-Is.is ∙ c.hex_digit.ensures)) in
+loop-from-smaller c = let g = (digit_at_lem _ _ _ _ c.peek-c.ensures (sym c.in_ok-d.was ∙ c.hex_digit.ensures)) in
     let i = g.next.inside in
     let z = g.small in
     omega arith
@@ -50,5 +38,5 @@ loop-from-smaller c = let g = (digit_at_lem _ _ _ _ c.peek-c.ensures (sym c.in-I
 pub loop-from-preserved : goal.loop-from-preserved
 loop-from-preserved c = (
   omega arith,
-  sym (until-step _ _ _ _ _ (digit_at_lem _ _ _ _ c.peek-c.ensures (sym c.in-Is.is ∙ c.hex_digit.ensures))) ∙ c.loop-from.invariant.1,
+  sym (until-step _ _ _ _ _ (digit_at_lem _ _ _ _ c.peek-c.ensures (sym c.in_ok-d.was ∙ c.hex_digit.ensures))) ∙ c.loop-from.invariant.1,
 )

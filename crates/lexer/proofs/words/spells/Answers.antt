@@ -1,6 +1,8 @@
 -- `lexer::words::spells` meets its contract. Assumes nothing.
+use Rattle.std.proofs.lemmas.Bool.Decides.{Decides-eqb}
+use Rattle.std.proofs.lemmas.Slice.Eq.{slice_eq-Decides}
 use Rattle.basics.proofs.Same.{same_by}
 use Rattle.lexer.proofs.words.spells.Goals as goal
 
 pub returns : goal.returns
-returns c = same_by _ _ _ c.same.ensures.0 c.same.ensures.1
+returns c = let d = slice_eq-Decides Decides-eqb _ _ _ c.eq.ensures in same_by _ _ _ d.0 d.1

@@ -1,40 +1,28 @@
 -- `parts::parse_literal_expression` meets its contract.
 -- Assumes nothing.
+use Rattle.parser.proofs.PartRules.{literal-refused, empty-yields, literal-yields, value_none, value-some}
+use Rattle.parser.proofs.Ready.{put-plain_asks, put_asks, part-short, string-in}
+use Rattle.tokens.proofs.Stops.{stopped}
 use native.Mathlib.Omega.{arith}
-use Rattle.parser.proofs.Ready.{put-plain_asks, put_asks, part-short, string-in, arrived_not}
-use Rattle.parser.proofs.PartRules.{value_none, value-some, literal-refused, empty-yields, literal-yields}
-use Rattle.tokens.proofs.Told.{arrived_told}
 use Rattle.parser.proofs.parts.parse_literal_expression.Goals as goal
 
-pub returns-in_default : goal.returns-in_default
-returns-in_default c = literal-refused _ _ _ _ _ (arrived_not _ _ c.next-arrived.ensures.0 (arrived_told c.in_default.is c.cause.ensures c.place.ensures))
+pub of-requires : goal.of-requires
+of-requires c = let h = (string-in c.requires.0 c.requires.1).part in (h.forth, h.inside)
 
-pub slice_bounds-set_atom-count : goal.slice_bounds-set_atom-count
-slice_bounds-set_atom-count c = (string-in c.requires.0 c.requires.1).part.forth
+pub returns-in_err-after-clause-parses : goal.returns-in_err-after-clause-parses
+returns-in_err-after-clause-parses c = rw (stopped c.from_residual.result c.from_residual.ensures.1) (literal-refused _ _ _ _ c.in_err-after.ensures.0)
 
-pub slice_bounds-set_atom-start : goal.slice_bounds-set_atom-start
-slice_bounds-set_atom-start c = (string-in c.requires.0 c.requires.1).part.forth
+pub put_plain-requires : goal.put_plain-requires
+put_plain-requires c = put-plain_asks c.requires.0 c.requires.0 c.start-start.ensures (omega arith)
 
-pub slice_bounds-set_atom-end : goal.slice_bounds-set_atom-end
-slice_bounds-set_atom-end c = (string-in c.requires.0 c.requires.1).part.inside
+pub put_string-requires : goal.put_string-requires
+put_string-requires c = rw c.of-2.ensures (put_asks c.requires.0 c.requires.0 c.start-start.ensures (omega arith) (part-short _ (string-in c.requires.0 c.requires.1).part))
 
-pub put_plain-m-requires : goal.put_plain-m-requires
-put_plain-m-requires c = put-plain_asks c.requires.0 c.requires.0 c.start.ensures (omega arith)
+pub returns-in_default-clause-parses : goal.returns-in_default-clause-parses
+returns-in_default-clause-parses c =
+    empty-yields _ _ c.requires.0 c.requires.1 c.in_ok-after.ensures (value_none _ (rw c.in_default.is at rw c.of.ensures at c.set_atom.ensures)) c.start-start.ensures c.start-start.ensures c.put_plain.ensures.stores
 
-pub slice_bounds-put_string-count : goal.slice_bounds-put_string-count
-slice_bounds-put_string-count c = (string-in c.requires.0 c.requires.1).part.forth
-
-pub slice_bounds-put_string-start : goal.slice_bounds-put_string-start
-slice_bounds-put_string-start c = (string-in c.requires.0 c.requires.1).part.forth
-
-pub slice_bounds-put_string-end : goal.slice_bounds-put_string-end
-slice_bounds-put_string-end c = (string-in c.requires.0 c.requires.1).part.inside
-
-pub put_string-put-requires : goal.put_string-put-requires
-put_string-put-requires c = put_asks c.requires.0 c.requires.0 c.start-in-One.ensures (omega arith) (part-short _ (string-in c.requires.0 c.requires.1).part)
-
-pub returns-in-End : goal.returns-in-End
-returns-in-End c = empty-yields _ _ c.requires.0 c.requires.1 _ c.next-arrived.ensures c.in-At.is (value_none _ _ c.set_atom.ensures c.in-End.is) c.start.ensures c.start-in-End.ensures c.put_plain-m.ensures
-
-pub returns-in-One : goal.returns-in-One
-returns-in-One c = literal-yields _ _ c.requires.0 c.requires.1 _ c.next-arrived.ensures c.in-At.is (value-some _ _ c.set_atom.ensures c.in-One.is) c.start-in-One.ensures c.start-in-One-2.ensures c.put_string-put.ensures
+pub returns-clause-parses : goal.returns-clause-parses
+returns-clause-parses c =
+    literal-yields _ _ c.requires.0 c.requires.1 c.in_ok-after.ensures (value-some _ (rw c.in-Some.is at rw c.of.ensures at c.set_atom.ensures)) c.start-start.ensures c.start-start.ensures
+    (rw c.of-2.ensures at c.put_string.ensures.stores) (rw c.of-2.ensures at c.put_string.ensures.few)

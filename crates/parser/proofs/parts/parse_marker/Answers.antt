@@ -1,28 +1,22 @@
 -- `parts::parse_marker` meets its contract.
 -- Assumes nothing.
-use native.Mathlib.Omega.{arith}
-use Rattle.parser.proofs.Ready.{put_asks, part-short, arrived-at, arrived_not, identifier_not}
 use Rattle.parser.proofs.HeadRules.{marker-refused, marker-name, marker-named, marker-yields}
-use Rattle.tokens.proofs.Told.{arrived_told, taken_told}
+use Rattle.parser.proofs.Ready.{put_asks, part-short}
+use Rattle.tokens.proofs.Stops.{stopped}
+use native.Mathlib.Omega.{arith}
 use Rattle.parser.proofs.parts.parse_marker.Goals as goal
 
-pub returns-in_default : goal.returns-in_default
-returns-in_default c = marker-refused _ _ _ (arrived_not _ _ c.next-arrived.ensures.0 (arrived_told c.in_default.is c.cause.ensures c.place.ensures))
+pub returns-in_err-marked-clause-parses : goal.returns-in_err-marked-clause-parses
+returns-in_err-marked-clause-parses c = rw (stopped c.from_residual.result c.from_residual.ensures.1) (marker-refused _ _ _ c.in_err-marked.ensures.0)
 
-pub returns-in_default-taken : goal.returns-in_default-taken
-returns-in_default-taken c = marker-name _ _ _ (arrived-at _ _ c.next-arrived.ensures.0 c.in-At.is) (identifier_not _ _ _ c.parse_identifier-taken.ensures (taken_told c.in_default-taken.is c.cause-in_default-taken.ensures c.place-in_default-taken.ensures))
+pub returns-in_err-name-clause-parses : goal.returns-in_err-name-clause-parses
+returns-in_err-name-clause-parses c = rw (stopped c.from_residual-in_err-name.result c.from_residual-in_err-name.ensures.1) (marker-name _ _ _ c.in_ok-marked.ensures.0 c.in_err-name.ensures.takes)
 
-pub slice_bounds-put_named-count : goal.slice_bounds-put_named-count
-slice_bounds-put_named-count c = (marker-named _ _ c.requires.0 c.requires.1 _ c.next-arrived.ensures c.in-At.is _ c.parse_identifier-taken.ensures c.in-Got.is).1.part.forth
+pub of-requires : goal.of-requires
+of-requires c = let h = (marker-named _ _ c.requires.0 c.requires.1 c.in_ok-marked.ensures c.in_ok-name.ensures).1.part in (h.forth, h.inside)
 
-pub slice_bounds-put_named-start : goal.slice_bounds-put_named-start
-slice_bounds-put_named-start c = (marker-named _ _ c.requires.0 c.requires.1 _ c.next-arrived.ensures c.in-At.is _ c.parse_identifier-taken.ensures c.in-Got.is).1.part.forth
+pub put_named-requires : goal.put_named-requires
+put_named-requires c = rw c.of.ensures (put_asks c.requires.0 c.requires.0 c.start.ensures (omega arith) (part-short _ (marker-named _ _ c.requires.0 c.requires.1 c.in_ok-marked.ensures c.in_ok-name.ensures).1.part))
 
-pub slice_bounds-put_named-end : goal.slice_bounds-put_named-end
-slice_bounds-put_named-end c = (marker-named _ _ c.requires.0 c.requires.1 _ c.next-arrived.ensures c.in-At.is _ c.parse_identifier-taken.ensures c.in-Got.is).1.part.inside
-
-pub put_named-put-requires : goal.put_named-put-requires
-put_named-put-requires c = put_asks c.requires.0 c.requires.0 c.start.ensures (omega arith) (part-short _ (marker-named _ _ c.requires.0 c.requires.1 _ c.next-arrived.ensures c.in-At.is _ c.parse_identifier-taken.ensures c.in-Got.is).1.part)
-
-pub returns : goal.returns
-returns c = marker-yields _ _ c.requires.0 c.requires.1 _ c.next-arrived.ensures c.in-At.is _ c.parse_identifier-taken.ensures c.in-Got.is _ c.marker_number.ensures c.start.ensures c.put_named-put.ensures
+pub returns-clause-parses : goal.returns-clause-parses
+returns-clause-parses c = marker-yields _ _ c.requires.0 c.requires.1 c.in_ok-marked.ensures c.in_ok-name.ensures _ c.kind.ensures c.start.ensures (rw c.of.ensures at c.put_named.ensures.stores)

@@ -1,52 +1,49 @@
 -- `parts::parse_repeats` meets its contract.
 -- Assumes nothing.
-use native.Mathlib.Omega.{arith}
-use mathlib.Core.Path.{◌∙◌}
-use Rattle.tokens.proofs.Told.{arrived_told}
 use Rattle.notation.specs.Limits.{repeats}
-use Rattle.parser.proofs.Ready.{ready_on}
+use Rattle.parser.proofs.HeadRules.{repeated-some, repeated-none, repeats-over, repeats-small, repeats-full, repeats_halt, repeats-more}
 use Rattle.parser.proofs.Lists.{listing_start}
 use Rattle.parser.proofs.PartRules.{plain_asks}
-use Rattle.parser.proofs.HeadRules.{repeated-some, repeated-none, repeats-small, repeats-over, repeats-full, repeats_halt, repeats-more}
+use Rattle.parser.proofs.Ready.{ready_on}
+use Rattle.parser.proofs.Stored.{kept_here, kept_then}
+use Rattle.tokens.proofs.Stops.{stopped}
+use mathlib.Core.Path.{◌∙◌}
+use native.Mathlib.Omega.{arith}
 use Rattle.parser.proofs.parts.parse_repeats.Goals as goal
 
 pub loop-kind-init : goal.loop-kind-init
-loop-kind-init c = listing_start _ _ _ _ _ _ c.requires.0.lies
+loop-kind-init c = record { kept = kept_here _; listing = listing_start _ _ _ _ _ _ c.requires.0.lies }
 
-pub shape_of-records-in_default : goal.shape_of-records-in_default
-shape_of-records-in_default c = omega (arith, c.loop-kind.invariant.lays.stores.same-words)
-
-pub returns-in_default : goal.returns-in_default
-returns-in_default c = repeats-over c.args.stack c.args.start c.loop-kind.invariant (repeated-none _ (c.repeat_kind.ensures ∙ rw c.mark.ensures) c.in_default.is)
+pub returns-clause-parses : goal.returns-clause-parses
+returns-clause-parses c = repeats-over c.args.stack c.args.start c.loop-kind.invariant.listing (repeated-none (c.repeat_kind.ensures ∙ rw c.mark.ensures) c.in_default.is)
 
 pub overflow_add-stack : goal.overflow_add-stack
 unfolding repeats
-overflow_add-stack c = omega (arith, repeats-small c.args.stack c.args.start c.loop-kind.invariant c.requires.0.small, c.requires.2)
+overflow_add-stack c = omega (arith, repeats-small c.args.stack c.args.start c.loop-kind.invariant.listing c.requires.0.small, c.requires.2)
 
-pub shape_of-records-then-stack-count-eq-REPEATS : goal.shape_of-records-then-stack-count-eq-REPEATS
-shape_of-records-then-stack-count-eq-REPEATS c = omega (arith, c.loop-kind.invariant.lays.stores.same-words)
-
-pub returns-then-stack-count-eq-REPEATS : goal.returns-then-stack-count-eq-REPEATS
+pub returns-then-stack-count-eq-REPEATS-clause-parses : goal.returns-then-stack-count-eq-REPEATS-clause-parses
 unfolding repeats
-returns-then-stack-count-eq-REPEATS c = repeats-full c.args.stack c.args.start c.loop-kind.invariant (repeated-some _ (c.repeat_kind.ensures ∙ rw c.mark.ensures) c.in-Kind.is) c.if-stack-count-eq-REPEATS.true c.start.ensures
+returns-then-stack-count-eq-REPEATS-clause-parses c = repeats-full c.args.stack c.args.start c.loop-kind.invariant.listing (repeated-some (c.repeat_kind.ensures ∙ rw c.mark.ensures) c.in-Some.is) c.if-stack-count-eq-REPEATS.true c.start.ensures
 
-pub shape_of-records-in_default-arrived : goal.shape_of-records-in_default-arrived
-shape_of-records-in_default-arrived c = omega (arith, c.loop-kind.invariant.lays.stores.same-words)
-
-pub returns-in_default-arrived : goal.returns-in_default-arrived
+pub returns-in_err-t-clause-parses : goal.returns-in_err-t-clause-parses
 unfolding repeats
-returns-in_default-arrived c = repeats_halt c.args.stack c.args.start c.loop-kind.invariant (repeated-some _ (c.repeat_kind.ensures ∙ rw c.mark.ensures) c.in-Kind.is) c.if-stack-count-eq-REPEATS.false _ c.next-arrived.ensures (arrived_told c.in_default-arrived.is c.cause.ensures c.place.ensures)
+returns-in_err-t-clause-parses c = rw (stopped c.from_residual.result c.from_residual.ensures.1) (repeats_halt c.args.stack c.args.start c.loop-kind.invariant.listing (repeated-some (c.repeat_kind.ensures ∙ rw c.mark.ensures) c.in-Some.is) c.if-stack-count-eq-REPEATS.false c.in_err-t.ensures.0)
 
-pub put_plain-m-requires : goal.put_plain-m-requires
-put_plain-m-requires c = plain_asks (ready_on c.requires.0 c.loop-kind.invariant.onward c.loop-kind.invariant.lays) c.requires.1 (omega arith)
+pub put_plain-requires : goal.put_plain-requires
+put_plain-requires c = let l = c.loop-kind.invariant.listing in plain_asks (ready_on c.requires.0 l.onward l.lays) c.requires.1 (omega arith)
 
 pub overflow_add-count : goal.overflow_add-count
-overflow_add-count c = omega (arith, repeats-small c.args.stack c.args.start c.loop-kind.invariant c.requires.0.small)
+overflow_add-count c = omega (arith, repeats-small c.args.stack c.args.start c.loop-kind.invariant.listing c.requires.0.small)
 
 pub loop-kind-smaller : goal.loop-kind-smaller
 unfolding repeats
-loop-kind-smaller c = omega (arith, (repeats-more c.args.stack c.args.start c.loop-kind.invariant (repeated-some _ (c.repeat_kind.ensures ∙ rw c.mark.ensures) c.in-Kind.is) c.if-stack-count-eq-REPEATS.false _ c.next-arrived.ensures c.in-At.is c.repeat_value.ensures c.put_plain-m.ensures).0.fewer)
+loop-kind-smaller c =
+    omega (arith, (repeats-more c.args.stack c.args.start c.loop-kind.invariant.listing (repeated-some (c.repeat_kind.ensures ∙ rw c.mark.ensures) c.in-Some.is) c.if-stack-count-eq-REPEATS.false c.in_ok-t.ensures c.value.ensures c.put_plain.ensures.stores).0.fewer)
 
 pub loop-kind-preserved : goal.loop-kind-preserved
 unfolding repeats
-loop-kind-preserved c = (repeats-more c.args.stack c.args.start c.loop-kind.invariant (repeated-some _ (c.repeat_kind.ensures ∙ rw c.mark.ensures) c.in-Kind.is) c.if-stack-count-eq-REPEATS.false _ c.next-arrived.ensures c.in-At.is c.repeat_value.ensures c.put_plain-m.ensures).1
+loop-kind-preserved c =
+    record {
+      kept = kept_then c.loop-kind.invariant.kept c.put_plain.ensures.kept;
+      listing = (repeats-more c.args.stack c.args.start c.loop-kind.invariant.listing (repeated-some (c.repeat_kind.ensures ∙ rw c.mark.ensures) c.in-Some.is) c.if-stack-count-eq-REPEATS.false c.in_ok-t.ensures c.value.ensures c.put_plain.ensures.stores).1;
+    }

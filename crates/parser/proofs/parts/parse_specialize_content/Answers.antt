@@ -1,39 +1,19 @@
 -- `parts::parse_specialize_content` meets its contract.
 -- Assumes nothing.
-use native.Mathlib.Omega.{arith}
-use mathlib.Core.Path.{refl}
+use Rattle.parser.proofs.HeadRules.{content-part, content-stored, short_asks, content_refused}
 use Rattle.parser.proofs.Ready.{part-short}
-use Rattle.parser.proofs.HeadRules.{content-part, content-stored, short_asks}
-use Rattle.notation.specs.Parser.{refuse}
+use Rattle.parser.proofs.Stored.{kept_here}
+use native.Mathlib.Omega.{arith}
 use Rattle.parser.proofs.parts.parse_specialize_content.Goals as goal
 
-pub slice_bounds-put_string-count : goal.slice_bounds-put_string-count
-slice_bounds-put_string-count c = (content-part c.requires c.in-Literal.is).forth
+pub of-requires : goal.of-requires
+of-requires c = let h = content-part c.requires c.in-Literal.is in (h.forth, h.inside)
 
-pub slice_bounds-put_string-start : goal.slice_bounds-put_string-start
-slice_bounds-put_string-start c = (content-part c.requires c.in-Literal.is).forth
+pub put_string-requires : goal.put_string-requires
+put_string-requires c = rw c.of.ensures (short_asks c.requires.small (part-short _ (content-part c.requires c.in-Literal.is)) c.requires.starts (omega arith) c.requires.room c.requires.space)
 
-pub slice_bounds-put_string-end : goal.slice_bounds-put_string-end
-slice_bounds-put_string-end c = (content-part c.requires c.in-Literal.is).inside
+pub returns-in_default : goal.returns-in_default
+returns-in_default c = record { kept = kept_here _; stores = content_refused _ _ _ _ c.in_default.not-Literal }
 
-pub put_string-put-requires : goal.put_string-put-requires
-put_string-put-requires c = short_asks c.requires.small (part-short _ (content-part c.requires c.in-Literal.is)) c.requires.starts (omega arith) c.requires.room c.requires.space
-
-pub returns-in-Literal : goal.returns-in-Literal
-returns-in-Literal c = (refl, content-stored c.requires c.in-Literal.is c.put_string-put.ensures)
-
-pub returns-in-Name : goal.returns-in-Name
-unfolding refuse
-returns-in-Name c = rw c.in-Name.is
-
-pub returns-in-Repeat : goal.returns-in-Repeat
-unfolding refuse
-returns-in-Repeat c = rw c.in-Repeat.is
-
-pub returns-in-Blank : goal.returns-in-Blank
-unfolding refuse
-returns-in-Blank c = rw c.in-Blank.is
-
-pub returns-in-Other : goal.returns-in-Other
-unfolding refuse
-returns-in-Other c = rw c.in-Other.is
+pub returns-clause-stores : goal.returns-clause-stores
+returns-clause-stores c = content-stored c.requires c.in-Literal.is (rw c.of.ensures at c.put_string.ensures.stores) (rw c.of.ensures at c.put_string.ensures.few)

@@ -1,17 +1,17 @@
 -- `props::opening` meets its contract.
 -- Assumes nothing.
+use Rattle.tokens.proofs.Stops.{stopped}
 use Rattle.parser.proofs.Openings.{opening-closed, opening-refused, opening-item, opening_halt}
-use Rattle.tokens.proofs.Told.{arrived_told}
 use Rattle.parser.proofs.props.opening.Goals as goal
 
-pub returns-in_default : goal.returns-in_default
-returns-in_default c = opening_halt _ _ c.requires.0 c.requires.1 _ _ _ c.eat_punctuation.ensures c.in-No.is _ c.separator-arrived.ensures (arrived_told c.in_default.is c.cause.ensures c.place.ensures)
+pub returns-in_err-after : goal.returns-in_err-after
+returns-in_err-after c = rw (stopped c.from_residual.result c.from_residual.ensures.1) (opening-refused _ _ c.requires.0 c.requires.1 _ _ c.in_err-after.ensures)
 
-pub returns-in-Yes : goal.returns-in-Yes
-returns-in-Yes c = opening-closed _ _ c.requires.0 c.requires.1 _ _ _ c.eat_punctuation.ensures c.in-Yes.is
+pub returns-in-Some : goal.returns-in-Some
+returns-in-Some c = opening-closed _ _ c.requires.0 c.requires.1 _ _ (rw c.in-Some.is at c.in_ok-after.ensures)
 
-pub returns-in-Refused : goal.returns-in-Refused
-returns-in-Refused c = opening-refused _ _ c.requires.0 c.requires.1 _ _ _ c.eat_punctuation.ensures c.in-Refused.is
+pub returns-in_err-item : goal.returns-in_err-item
+returns-in_err-item c = rw (stopped c.from_residual-in_err-item.result c.from_residual-in_err-item.ensures.1) (opening_halt _ _ c.requires.0 c.requires.1 _ _ (rw c.in_default.is at c.in_ok-after.ensures) c.in_err-item.ensures)
 
-pub returns-in-At : goal.returns-in-At
-returns-in-At c = opening-item _ _ c.requires.0 c.requires.1 _ _ _ c.eat_punctuation.ensures c.in-No.is _ c.separator-arrived.ensures c.in-At.is
+pub returns : goal.returns
+returns c = opening-item _ _ c.requires.0 c.requires.1 _ _ (rw c.in_default.is at c.in_ok-after.ensures) c.in_ok-item.ensures

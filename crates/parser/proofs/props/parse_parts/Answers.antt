@@ -1,42 +1,36 @@
 -- `props::parse_parts` meets its contract.
 -- Assumes nothing.
 use native.Mathlib.Omega.{arith}
+use Rattle.tokens.proofs.Stops.{stopped}
+use Rattle.tree.specs.Stored.{part_branch}
+use Rattle.parser.proofs.Stored.{kept_here, kept_then}
 use Rattle.parser.proofs.Ready.{ready_on, listing-small}
 use Rattle.parser.proofs.Lists.{listing_start}
 use Rattle.parser.proofs.Openings.{turn-over, turn-refused, turn_more}
 use Rattle.parser.proofs.PropRules.{part-any}
-use Rattle.tree.specs.Stored.{part_branch}
 use Rattle.parser.proofs.props.parse_parts.Goals as goal
 
-pub loop-cause-init : goal.loop-cause-init
-loop-cause-init c = listing_start _ _ _ _ _ _ c.requires.lies
+pub loop-after-init : goal.loop-after-init
+loop-after-init c = record { kept = kept_here _; listing = listing_start _ _ _ _ _ _ c.requires.lies }
 
 pub parse_part-requires : goal.parse_part-requires
-parse_part-requires c = ready_on c.requires c.loop-cause.invariant.onward c.loop-cause.invariant.lays
+parse_part-requires c = let l = c.loop-after.invariant.listing in ready_on c.requires l.onward l.lays
 
-pub shape_of-records-in-Over : goal.shape_of-records-in-Over
-shape_of-records-in-Over c = omega (arith, c.loop-cause.invariant.lays.stores.same-words)
-
-pub shape_of-texts-in-Over : goal.shape_of-texts-in-Over
-shape_of-texts-in-Over c = omega (arith, c.loop-cause.invariant.lays.stores.same-texts)
-
-pub returns-in-Over : goal.returns-in-Over
-returns-in-Over c = turn-over c.loop-cause.invariant _ (part-any _ _) _ _ _ c.parse_part.ensures c.in-Over.is
-
-pub shape_of-records-in-Refused : goal.shape_of-records-in-Refused
-shape_of-records-in-Refused c = omega (arith, c.loop-cause.invariant.lays.stores.same-words)
-
-pub shape_of-texts-in-Refused : goal.shape_of-texts-in-Refused
-shape_of-texts-in-Refused c = omega (arith, c.loop-cause.invariant.lays.stores.same-texts)
-
-pub returns-in-Refused : goal.returns-in-Refused
-returns-in-Refused c = turn-refused c.loop-cause.invariant _ (part-any _ _) _ _ _ c.parse_part.ensures c.in-Refused.is
+pub returns-in_err-after-clause-parses : goal.returns-in_err-after-clause-parses
+returns-in_err-after-clause-parses c = rw (stopped c.from_residual.result c.from_residual.ensures.1) (turn-refused c.loop-after.invariant.listing (part-any _ _) c.in_err-after.ensures.parses)
 
 pub overflow_add-count : goal.overflow_add-count
-overflow_add-count c = omega (arith, listing-small part_branch c.loop-cause.invariant c.requires.small (omega arith))
+overflow_add-count c = omega (arith, listing-small part_branch c.loop-after.invariant.listing c.requires.small (omega arith))
 
-pub loop-cause-smaller : goal.loop-cause-smaller
-loop-cause-smaller c = omega (arith, (turn_more c.loop-cause.invariant _ (part-any _ _) _ _ _ c.parse_part.ensures c.in-More.is).0.fewer)
+pub loop-after-smaller : goal.loop-after-smaller
+loop-after-smaller c = omega (arith, (turn_more c.loop-after.invariant.listing (part-any _ _) (rw c.in-Some.is at c.in_ok-after.ensures.parses)).0.fewer)
 
-pub loop-cause-preserved : goal.loop-cause-preserved
-loop-cause-preserved c = (turn_more c.loop-cause.invariant _ (part-any _ _) _ _ _ c.parse_part.ensures c.in-More.is).1
+pub loop-after-preserved : goal.loop-after-preserved
+loop-after-preserved c =
+    record {
+      kept = kept_then c.loop-after.invariant.kept c.parse_part.ensures.kept;
+      listing = (turn_more c.loop-after.invariant.listing (part-any _ _) (rw c.in-Some.is at c.in_ok-after.ensures.parses)).1;
+    }
+
+pub returns-clause-parses : goal.returns-clause-parses
+returns-clause-parses c = turn-over c.loop-after.invariant.listing (part-any _ _) (rw c.in_default.is at c.in_ok-after.ensures.parses)

@@ -1,25 +1,19 @@
 -- `props::part_string` meets its contract.
 -- Assumes nothing.
 use native.Mathlib.Omega.{arith}
+use Rattle.tokens.proofs.Stops.{stopped}
 use Rattle.parser.proofs.Ready.{put_asks, part-short, string-in}
 use Rattle.parser.proofs.PropRules.{string-refused, string-found}
-use Rattle.tokens.proofs.Told.{arrived_told}
 use Rattle.parser.proofs.props.part_string.Goals as goal
 
-pub returns-in_default : goal.returns-in_default
-returns-in_default c = let o = c in string-refused _ _ o.requires.0 o.requires.1 _ c.next-arrived.ensures (arrived_told c.in_default.is c.cause.ensures c.place.ensures)
+pub returns-in_err-after-clause-parses : goal.returns-in_err-after-clause-parses
+returns-in_err-after-clause-parses c = rw (stopped c.from_residual.result c.from_residual.ensures.1) (string-refused _ _ c.requires.1 c.in_err-after.ensures.0)
 
-pub slice_bounds-put_string-count : goal.slice_bounds-put_string-count
-slice_bounds-put_string-count c = (string-in c.requires.0 c.requires.1).part.forth
+pub of-requires : goal.of-requires
+of-requires c = let h = string-in c.requires.0 c.requires.1 in (h.part.forth, h.part.inside)
 
-pub slice_bounds-put_string-start : goal.slice_bounds-put_string-start
-slice_bounds-put_string-start c = (string-in c.requires.0 c.requires.1).part.forth
+pub put_string-requires : goal.put_string-requires
+put_string-requires c = rw c.of.ensures (put_asks c.requires.0 c.requires.0 c.start.ensures (omega arith) (part-short _ (string-in c.requires.0 c.requires.1).part))
 
-pub slice_bounds-put_string-end : goal.slice_bounds-put_string-end
-slice_bounds-put_string-end c = (string-in c.requires.0 c.requires.1).part.inside
-
-pub put_string-put-requires : goal.put_string-put-requires
-put_string-put-requires c = let o = c in put_asks o.requires.0 o.requires.0 c.start.ensures (omega arith) (part-short _ (string-in o.requires.0 o.requires.1).part)
-
-pub returns : goal.returns
-returns c = let o = c in string-found _ _ o.requires.0 o.requires.1 _ c.next-arrived.ensures c.in-At.is c.start.ensures c.put_string-put.ensures
+pub returns-clause-parses : goal.returns-clause-parses
+returns-clause-parses c = string-found _ _ c.requires.0 c.requires.1 c.in_ok-after.ensures c.start.ensures (rw c.of.ensures at c.put_string.ensures.stores) (rw c.of.ensures at c.put_string.ensures.few)

@@ -2,56 +2,48 @@
 -- Assumes nothing.
 use native.Mathlib.Omega.{arith}
 use mathlib.Core.Path.{refl}
+use Rattle.tokens.proofs.Stops.{stopped}
+use Rattle.notation.specs.Expressions.{parse_prop}
+use Rattle.tree.specs.Stored.{prop_branch}
+use Rattle.parser.proofs.Stored.{kept_here, kept_then}
+use Rattle.parser.specs.declared.props.Comma.TheVariants.{Must}
 use Rattle.parser.proofs.Ready.{ready_step, ready_on, listing-small}
 use Rattle.parser.proofs.Lists.{listing_start}
 use Rattle.parser.proofs.Openings.{item-onward, list_closed, list_refused, item_refused, item-more}
-use Rattle.notation.specs.Expressions.{parse_prop}
-use Rattle.parser.specs.declared.props.Comma.TheVariants.{Must}
-use Rattle.tree.specs.Stored.{prop_branch}
-use Rattle.parser.proofs.Told.{parsed_told}
 use Rattle.parser.proofs.props.props_list.Goals as goal
 
-pub loop-u-init : goal.loop-u-init
-loop-u-init c = listing_start _ _ _ _ _ _ c.requires.lies
+pub loop-after-init : goal.loop-after-init
+loop-after-init c = record { kept = kept_here _; listing = listing_start _ _ _ _ _ _ c.requires.lies }
 
 pub opening-requires : goal.opening-requires
-opening-requires c = (c.loop-u.invariant.onward.lies, omega arith)
+opening-requires c = (c.loop-after.invariant.listing.onward.lies, omega arith)
 
-pub shape_of-records-in-Closed : goal.shape_of-records-in-Closed
-shape_of-records-in-Closed c = omega (arith, c.loop-u.invariant.lays.stores.same-words)
+pub returns-in_err-after-clause-parses : goal.returns-in_err-after-clause-parses
+returns-in_err-after-clause-parses c = rw (stopped c.from_residual.result c.from_residual.ensures.1) (list_refused "]" Must (λ _. parse_prop) c.loop-after.invariant.listing c.in_err-after.ensures)
 
-pub shape_of-texts-in-Closed : goal.shape_of-texts-in-Closed
-shape_of-texts-in-Closed c = omega (arith, c.loop-u.invariant.lays.stores.same-texts)
+pub returns-in-Closed-clause-parses : goal.returns-in-Closed-clause-parses
+returns-in-Closed-clause-parses c = list_closed "]" Must (λ _. parse_prop) c.loop-after.invariant.listing (rw c.in-Closed.is at c.in_ok-after.ensures) (omega arith)
 
-pub returns-in-Closed : goal.returns-in-Closed
-returns-in-Closed c = list_closed "]" Must (λ _. parse_prop) c.loop-u.invariant _ c.opening.ensures c.in-Closed.is (omega arith)
+pub parse_prop-requires : goal.parse_prop-requires
+parse_prop-requires c =
+    let l = c.loop-after.invariant.listing in
+    ready_step (ready_on c.requires l.onward l.lays) (item-onward "]" (rw c.in-Item.is at c.in_ok-after.ensures))
 
-pub shape_of-records-in-Refused : goal.shape_of-records-in-Refused
-shape_of-records-in-Refused c = omega (arith, c.loop-u.invariant.lays.stores.same-words)
-
-pub shape_of-texts-in-Refused : goal.shape_of-texts-in-Refused
-shape_of-texts-in-Refused c = omega (arith, c.loop-u.invariant.lays.stores.same-texts)
-
-pub returns-in-Refused : goal.returns-in-Refused
-returns-in-Refused c = list_refused "]" Must (λ _. parse_prop) c.loop-u.invariant _ c.opening.ensures c.in-Refused.is
-
-pub parse_prop-parsed-requires : goal.parse_prop-parsed-requires
-parse_prop-parsed-requires c = ready_step (ready_on c.requires c.loop-u.invariant.onward c.loop-u.invariant.lays) (item-onward "]" c.opening.ensures c.in-Item.is)
-
-pub shape_of-records-in_default : goal.shape_of-records-in_default
-shape_of-records-in_default c = omega (arith, c.loop-u.invariant.lays.stores.same-words)
-
-pub shape_of-texts-in_default : goal.shape_of-texts-in_default
-shape_of-texts-in_default c = omega (arith, c.loop-u.invariant.lays.stores.same-texts)
-
-pub returns-in_default : goal.returns-in_default
-returns-in_default c = item_refused "]" Must (λ _. parse_prop) c.loop-u.invariant _ c.opening.ensures c.in-Item.is _ refl _ _ _ c.parse_prop-parsed.ensures (parsed_told c.in_default.is c.cause.ensures c.place.ensures)
+pub returns-in_err-t-in-Item-clause-parses : goal.returns-in_err-t-in-Item-clause-parses
+returns-in_err-t-in-Item-clause-parses c =
+    rw (stopped c.from_residual-in_err-t-in-Item.result c.from_residual-in_err-t-in-Item.ensures.1)
+    (item_refused "]" Must (λ _. parse_prop) c.loop-after.invariant.listing (rw c.in-Item.is at c.in_ok-after.ensures) refl c.in_err-t-in-Item.ensures.parses)
 
 pub overflow_add-count : goal.overflow_add-count
-overflow_add-count c = omega (arith, listing-small prop_branch c.loop-u.invariant c.requires.small (omega arith))
+overflow_add-count c = omega (arith, listing-small prop_branch c.loop-after.invariant.listing c.requires.small (omega arith))
 
-pub loop-u-smaller : goal.loop-u-smaller
-loop-u-smaller c = omega (arith, (item-more "]" Must (λ _. parse_prop) c.loop-u.invariant _ c.opening.ensures c.in-Item.is _ refl _ _ _ c.parse_prop-parsed.ensures c.in-Done.is).0.fewer)
+pub loop-after-smaller : goal.loop-after-smaller
+loop-after-smaller c =
+    omega (arith, (item-more "]" Must (λ _. parse_prop) c.loop-after.invariant.listing (rw c.in-Item.is at c.in_ok-after.ensures) refl c.in_ok-t-in-Item.ensures.parses).0.fewer)
 
-pub loop-u-preserved : goal.loop-u-preserved
-loop-u-preserved c = (item-more "]" Must (λ _. parse_prop) c.loop-u.invariant _ c.opening.ensures c.in-Item.is _ refl _ _ _ c.parse_prop-parsed.ensures c.in-Done.is).1
+pub loop-after-preserved : goal.loop-after-preserved
+loop-after-preserved c =
+    record {
+      kept = kept_then c.loop-after.invariant.kept c.parse_prop.ensures.kept;
+      listing = (item-more "]" Must (λ _. parse_prop) c.loop-after.invariant.listing (rw c.in-Item.is at c.in_ok-after.ensures) refl c.in_ok-t-in-Item.ensures.parses).1;
+    }

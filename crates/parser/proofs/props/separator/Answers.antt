@@ -5,7 +5,7 @@ use Rattle.parser.proofs.Openings.{separator-first, separator-later}
 use Rattle.parser.proofs.props.separator.Goals as goal
 
 pub returns-then-count-eq0 : goal.returns-then-count-eq0
-returns-then-count-eq0 c = separator-first _ _ c.requires c.args.comma c.args.count (omega arith)
+returns-then-count-eq0 c = separator-first _ _ c.requires _ _ c.if-count-eq0.true
 
 pub returns : goal.returns
-returns c = separator-later _ _ c.requires c.args.comma c.args.count (omega arith) c.between.ensures
+returns c = separator-later _ _ c.requires _ _ (omega arith) c.between.ensures

@@ -13,8 +13,5 @@ loop-i-init c = (omega arith, spread_none _ _ _ _)
 pub loop-i-preserved : goal.loop-i-preserved
 loop-i-preserved c = (c.loop-i.invariant.0, spread_on _ _ _ _ c.loop-i.invariant.0 _ _ _ c.loop-i.invariant.1 (omega arith) _ c.put_span.ensures)
 
-pub shape_of-records : goal.shape_of-records
-shape_of-records c = c.loop-i.invariant.1.size
-
 pub returns : goal.returns
 returns c = spread_all _ _ _ _ c.loop-i.invariant.0 _ _ c.loop-i.invariant.1 (omega arith)

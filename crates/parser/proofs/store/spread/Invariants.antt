@@ -5,6 +5,3 @@ use Rattle.parser.proofs.store.spread.Given as goal
 
 abbrev pub invariant-loop-i : goal.invariant-loop-i
 invariant-loop-i l = (l.n + 7 * l.count ≤ length l.initial.records) × Spreading l.start l.n l.count l.initial.records l.records l.i
-
-abbrev pub decreases-loop-i : goal.decreases-loop-i
-decreases-loop-i l = l.i

@@ -1,10 +1,6 @@
-use Prim.Native.Nat.{◌-◌}
-use lib.ListN.{length}
 use Rattle.reader.proofs.PlaceLaws.{Lining}
+use Rattle.reader.specs.Places.{words_in, bytes_in}
 use Rattle.reader.proofs.blocks.line_up.Given as goal
 
 abbrev pub invariant-loop-i : goal.invariant-loop-i
-invariant-loop-i l = Lining l.from l.initial.sizes l.sizes l.at l.i
-
-abbrev pub decreases-loop-i : goal.decreases-loop-i
-decreases-loop-i l = length l.sizes - l.i
+invariant-loop-i l = Lining l.initial.words (words_in l.initial.sizes) (words_in l.sizes) l.words l.i × Lining l.initial.bytes (bytes_in l.initial.sizes) (bytes_in l.sizes) l.bytes l.i

@@ -1,87 +1,71 @@
 -- `blocks::members_pass` meets its contract.
 -- Assumes nothing.
 use native.Mathlib.Omega.{arith}
-use mathlib.Core.Path.{refl}
+use mathlib.Core.Path.{refl, ◌∙◌}
+use Rattle.tokens.proofs.Stops.{stopped}
+use Rattle.parser.proofs.Stored.{kept_here, kept_then}
 use Rattle.parser.proofs.Openings.{item-onward}
-use Rattle.reader.proofs.Told.{joined_told}
+use Rattle.reader.proofs.KindTests.{is_named_node}
 use Rattle.reader.proofs.Membering.{members-refused, member_refused}
-use Rattle.reader.proofs.Spreading.{settled_at, settled_not, spreading_start, spreading_small, spreading_begins, spreading_closed, spreading_onward, spreading_next}
+use Rattle.reader.proofs.Spreading.{spreading_start, spreading_small, spreading_begins, spreading_closed, spreading_onward, spreading_next}
 use Rattle.reader.proofs.blocks.members_pass.Goals as goal
 
-pub loop-u-init : goal.loop-u-init
-loop-u-init c = spreading_start _ _ _ _ _ _ _ c.requires.lies
+pub loop-after-init : goal.loop-after-init
+loop-after-init c = record { kept = kept_here _; spreading = spreading_start _ _ _ _ _ _ _ c.requires.lies }
 
 pub opening-requires : goal.opening-requires
-opening-requires c = (c.loop-u.invariant.membering.listing.onward.lies, omega arith)
+opening-requires c = (c.loop-after.invariant.spreading.membering.listing.onward.lies, omega arith)
 
-pub shape_of-words-in-Closed : goal.shape_of-words-in-Closed
-shape_of-words-in-Closed c = omega (arith, c.loop-u.invariant.fills.same_places)
+pub returns-in_err-after-clause-spreads : goal.returns-in_err-after-clause-spreads
+returns-in_err-after-clause-spreads c = rw (stopped c.from_residual.result c.from_residual.ensures.1) (members-refused c.loop-after.invariant.spreading.membering c.comma.ensures c.in_err-after.ensures)
 
-pub shape_of-bytes-in-Closed : goal.shape_of-bytes-in-Closed
-shape_of-bytes-in-Closed c = omega (arith, c.loop-u.invariant.fills.same_bytes)
+pub returns-in-Closed-clause-spreads : goal.returns-in-Closed-clause-spreads
+returns-in-Closed-clause-spreads c = spreading_closed c.loop-after.invariant.spreading c.comma.ensures (rw c.in-Closed.is at c.in_ok-after.ensures)
 
-pub shape_of-records-in-Closed : goal.shape_of-records-in-Closed
-shape_of-records-in-Closed c = omega (arith, c.loop-u.invariant.fills.records.same)
+pub member_placed-requires : goal.member_placed-requires
+member_placed-requires c = spreading_begins c.loop-after.invariant.spreading c.requires (item-onward "}" (rw c.in-Item.is at c.in_ok-after.ensures)).lies
 
-pub shape_of-texts-in-Closed : goal.shape_of-texts-in-Closed
-shape_of-texts-in-Closed c = omega (arith, c.loop-u.invariant.fills.texts.same)
+pub returns-in_err-joined-in-Item-clause-spreads : goal.returns-in_err-joined-in-Item-clause-spreads
+returns-in_err-joined-in-Item-clause-spreads c =
+    rw (stopped c.from_residual-in_err-joined-in-Item.result c.from_residual-in_err-joined-in-Item.ensures.1)
+    (member_refused c.loop-after.invariant.spreading.membering c.comma.ensures (rw c.in-Item.is at c.in_ok-after.ensures) c.in_err-joined-in-Item.ensures.settles)
 
-pub returns-in-Closed : goal.returns-in-Closed
-returns-in-Closed c = spreading_closed c.loop-u.invariant c.comma.ensures c.opening.ensures c.in-Closed.is
+pub overflow_add-words : goal.overflow_add-words
+overflow_add-words c =
+    let k = (spreading_small (spreading_next c.loop-after.invariant.spreading c.comma.ensures (rw c.in-Item.is at c.in_ok-after.ensures) c.requires c.in_ok-joined-in-Item.ensures.settles refl) c.requires.small).2 in
+    omega arith
 
-pub shape_of-words-in-Refused : goal.shape_of-words-in-Refused
-shape_of-words-in-Refused c = omega (arith, c.loop-u.invariant.fills.same_places)
+pub overflow_add-bytes : goal.overflow_add-bytes
+overflow_add-bytes c =
+    let k = (spreading_small (spreading_next c.loop-after.invariant.spreading c.comma.ensures (rw c.in-Item.is at c.in_ok-after.ensures) c.requires c.in_ok-joined-in-Item.ensures.settles refl) c.requires.small).3 in
+    omega arith
 
-pub shape_of-bytes-in-Refused : goal.shape_of-bytes-in-Refused
-shape_of-bytes-in-Refused c = omega (arith, c.loop-u.invariant.fills.same_bytes)
-
-pub shape_of-records-in-Refused : goal.shape_of-records-in-Refused
-shape_of-records-in-Refused c = omega (arith, c.loop-u.invariant.fills.records.same)
-
-pub shape_of-texts-in-Refused : goal.shape_of-texts-in-Refused
-shape_of-texts-in-Refused c = omega (arith, c.loop-u.invariant.fills.texts.same)
-
-pub returns-in-Refused : goal.returns-in-Refused
-returns-in-Refused c = members-refused c.loop-u.invariant.membering c.comma.ensures c.opening.ensures c.in-Refused.is
-
-pub member_placed-joined-requires : goal.member_placed-joined-requires
-member_placed-joined-requires c = spreading_begins c.loop-u.invariant c.requires (item-onward "}" c.opening.ensures c.in-Item.is).lies
-
-pub shape_of-words-in_default : goal.shape_of-words-in_default
-shape_of-words-in_default c = omega (arith, c.loop-u.invariant.fills.same_places)
-
-pub shape_of-bytes-in_default : goal.shape_of-bytes-in_default
-shape_of-bytes-in_default c = omega (arith, c.loop-u.invariant.fills.same_bytes)
-
-pub shape_of-records-in_default : goal.shape_of-records-in_default
-shape_of-records-in_default c = omega (arith, c.loop-u.invariant.fills.records.same)
-
-pub shape_of-texts-in_default : goal.shape_of-texts-in_default
-shape_of-texts-in_default c = omega (arith, c.loop-u.invariant.fills.texts.same)
-
-pub returns-in_default : goal.returns-in_default
-returns-in_default c = member_refused c.loop-u.invariant.membering c.comma.ensures c.opening.ensures c.in-Item.is (settled_not _ _ _ _ _ _ _ _ _ _ _ _ c.member_placed-joined.result c.member_placed-joined.ensures (joined_told c.in_default.is c.cause.ensures c.place.ensures))
-
-pub overflow_add-m : goal.overflow_add-m
-overflow_add-m c = let k = (spreading_small (spreading_next c.loop-u.invariant c.comma.ensures c.opening.ensures c.in-Item.is c.requires (settled_at _ _ _ _ _ _ _ _ _ _ _ _ c.member_placed-joined.result c.member_placed-joined.ensures c.in-Done.is) refl) c.requires.small).2 in omega arith
-
-pub overflow_add-y : goal.overflow_add-y
-overflow_add-y c = let k = (spreading_small (spreading_next c.loop-u.invariant c.comma.ensures c.opening.ensures c.in-Item.is c.requires (settled_at _ _ _ _ _ _ _ _ _ _ _ _ c.member_placed-joined.result c.member_placed-joined.ensures c.in-Done.is) refl) c.requires.small).3 in omega arith
+pub overflow_add-turns : goal.overflow_add-turns
+overflow_add-turns c =
+    let k = (spreading_small (spreading_next c.loop-after.invariant.spreading c.comma.ensures (rw c.in-Item.is at c.in_ok-after.ensures) c.requires c.in_ok-joined-in-Item.ensures.settles refl) c.requires.small).0 in
+    omega arith
 
 pub overflow_add-count : goal.overflow_add-count
-overflow_add-count c = let k = (spreading_small (spreading_next c.loop-u.invariant c.comma.ensures c.opening.ensures c.in-Item.is c.requires (settled_at _ _ _ _ _ _ _ _ _ _ _ _ c.member_placed-joined.result c.member_placed-joined.ensures c.in-Done.is) refl) c.requires.small).0 in omega arith
+overflow_add-count c =
+    let k = (spreading_small (spreading_next c.loop-after.invariant.spreading c.comma.ensures (rw c.in-Item.is at c.in_ok-after.ensures) c.requires c.in_ok-joined-in-Item.ensures.settles refl) c.requires.small).1 in
+    omega arith
 
-pub overflow_add-children : goal.overflow_add-children
-overflow_add-children c = let k = (spreading_small (spreading_next c.loop-u.invariant c.comma.ensures c.opening.ensures c.in-Item.is c.requires (settled_at _ _ _ _ _ _ _ _ _ _ _ _ c.member_placed-joined.result c.member_placed-joined.ensures c.in-Done.is) refl) c.requires.small).1 in omega arith
+pub loop-after-smaller-then-free : goal.loop-after-smaller-then-free
+loop-after-smaller-then-free c = let k = (spreading_onward c.loop-after.invariant.spreading c.comma.ensures (rw c.in-Item.is at c.in_ok-after.ensures) c.requires c.in_ok-joined-in-Item.ensures.settles).fewer in omega arith
 
-pub loop-u-smaller-then-free : goal.loop-u-smaller-then-free
-loop-u-smaller-then-free c = let k = (spreading_onward c.loop-u.invariant c.comma.ensures c.opening.ensures c.in-Item.is c.requires (settled_at _ _ _ _ _ _ _ _ _ _ _ _ c.member_placed-joined.result c.member_placed-joined.ensures c.in-Done.is)).fewer in omega arith
+pub loop-after-preserved-then-free : goal.loop-after-preserved-then-free
+loop-after-preserved-then-free c =
+    record {
+      kept = kept_then c.loop-after.invariant.kept c.member_placed.ensures.kept;
+      spreading = spreading_next c.loop-after.invariant.spreading c.comma.ensures (rw c.in-Item.is at c.in_ok-after.ensures) c.requires c.in_ok-joined-in-Item.ensures.settles (c.ne-free.ensures ∙ rw (c.if-free.true, is_named_node c.in_ok-joined-in-Item.joined.kind));
+    }
 
-pub loop-u-preserved-then-free : goal.loop-u-preserved-then-free
-loop-u-preserved-then-free c = spreading_next c.loop-u.invariant c.comma.ensures c.opening.ensures c.in-Item.is c.requires (settled_at _ _ _ _ _ _ _ _ _ _ _ _ c.member_placed-joined.result c.member_placed-joined.ensures c.in-Done.is) (rw c.if-free.true)
+pub loop-after-smaller : goal.loop-after-smaller
+loop-after-smaller c = let k = (spreading_onward c.loop-after.invariant.spreading c.comma.ensures (rw c.in-Item.is at c.in_ok-after.ensures) c.requires c.in_ok-joined-in-Item.ensures.settles).fewer in omega arith
 
-pub loop-u-smaller : goal.loop-u-smaller
-loop-u-smaller c = let k = (spreading_onward c.loop-u.invariant c.comma.ensures c.opening.ensures c.in-Item.is c.requires (settled_at _ _ _ _ _ _ _ _ _ _ _ _ c.member_placed-joined.result c.member_placed-joined.ensures c.in-Done.is)).fewer in omega arith
-
-pub loop-u-preserved : goal.loop-u-preserved
-loop-u-preserved c = spreading_next c.loop-u.invariant c.comma.ensures c.opening.ensures c.in-Item.is c.requires (settled_at _ _ _ _ _ _ _ _ _ _ _ _ c.member_placed-joined.result c.member_placed-joined.ensures c.in-Done.is) (rw c.if-free.false)
+pub loop-after-preserved : goal.loop-after-preserved
+loop-after-preserved c =
+    record {
+      kept = kept_then c.loop-after.invariant.kept c.member_placed.ensures.kept;
+      spreading = spreading_next c.loop-after.invariant.spreading c.comma.ensures (rw c.in-Item.is at c.in_ok-after.ensures) c.requires c.in_ok-joined-in-Item.ensures.settles (rw c.if-free.false);
+    }

@@ -1,49 +1,46 @@
 -- `blocks::parse_members` meets its contract.
 -- Assumes nothing.
 use native.Mathlib.Omega.{arith}
-use mathlib.Core.Path.{refl, ap, sym, ◌∙◌}
-use lib.ListN.{length, length-set}
-use Rattle.reader.proofs.BlockFilled.{spread_at, spread_not, before-words, before-texts, blank-begins, spread_small, words_small, bytes_small, first-size, spread_none, lined-begins, all_after, first-kept, spread_over}
+use mathlib.Core.Path.{sym, ◌∙◌}
+use Rattle.tokens.proofs.Stops.{stopped}
+use Rattle.reader.proofs.Extents.{length-words, words-at, words-set}
+use Rattle.reader.proofs.BlockGathered.{lent-nothing}
+use Rattle.reader.proofs.BlockFilled.{blank-begins, spread_none, spread_twice, first-size, first-kept, words_small, bytes_small, lined-begins}
+use Rattle.reader.proofs.blocks.parse_members.Goals.{then-not-is_measuring+in_ok-members_pass, else-not-is_measuring}
 use Rattle.reader.proofs.blocks.parse_members.Goals as goal
 
-pub members_pass-measured-requires : goal.members_pass-measured-requires
-members_pass-measured-requires c = blank-begins c.requires.0.lies c.requires.0.small c.requires.1 c.requires.2
+pub members_pass-requires : goal.members_pass-requires
+members_pass-requires c = blank-begins c.requires.0.lies c.requires.0.small c.requires.1 c.requires.2
 
-pub returns-in_default : goal.returns-in_default
-returns-in_default c = rw c.in_default.is (spread_not _ _ _ _ _ _ _ _ _ _ _ c.members_pass-measured.result c.members_pass-measured.ensures c.in_default.is, tt)
+pub returns-in_err-measured-clause-gathers : goal.returns-in_err-measured-clause-gathers
+returns-in_err-measured-clause-gathers c = rw (stopped c.from_residual.result c.from_residual.ensures.1) c.in_err-measured.ensures.spreads
 
-pub overflow_add-result : goal.overflow_add-result
-overflow_add-result c = let k = (spread_small c.requires.0 c.requires.1 c.requires.2 (spread_at _ _ _ _ _ _ _ _ _ _ _ c.members_pass-measured.result c.members_pass-measured.ensures c.in-Done.is)).0 in omega arith
+pub returns-in_err-measured-clause-first : goal.returns-in_err-measured-clause-first
+returns-in_err-measured-clause-first c = rw (stopped c.from_residual.result c.from_residual.ensures.1) tt
 
-pub overflow_add-result-then-texts-eq0 : goal.overflow_add-result-then-texts-eq0
-overflow_add-result-then-texts-eq0 c = let k = (spread_small c.requires.0 c.requires.1 c.requires.2 (spread_at _ _ _ _ _ _ _ _ _ _ _ c.members_pass-measured.result c.members_pass-measured.ensures c.in-Done.is)).1 in omega arith
-
-pub returns-then-texts-eq0 : goal.returns-then-texts-eq0
-returns-then-texts-eq0 c = let j = (spread_at _ _ _ _ _ _ _ _ _ _ _ c.members_pass-measured.result c.members_pass-measured.ensures c.in-Done.is) in let v = before-words j refl c.args.records.now in let w = before-texts j refl c.args.texts.now in (spread_none c.requires.0 c.requires.1 c.requires.2 j (sym (ap length v) ∙ c.if-records-eq0.true) (sym (ap length w) ∙ c.if-texts-eq0.true) c.if-records-eq0.true (c.if-texts-eq0.true), first-size c.requires.0 c.requires.1 c.requires.2 j)
+pub bounds-groups-0 : goal.bounds-groups-0
+bounds-groups-0 c = let a = c.requires.1.all in let l = length-words c.args.groups.now in let k = c.members_pass.auto.places in omega arith
 
 pub line_up-requires : goal.line_up-requires
-line_up-requires c = words_small c.requires.0 c.requires.1 c.requires.2 (spread_at _ _ _ _ _ _ _ _ _ _ _ c.members_pass-measured.result c.members_pass-measured.ensures c.in-Done.is)
+line_up-requires c = (words_small c.requires.0 c.requires.1 c.requires.2 c.in_ok-measured.ensures.spreads, bytes_small c.requires.0 c.requires.1 c.requires.2 c.in_ok-measured.ensures.spreads)
 
-pub line_up-requires-2 : goal.line_up-requires-2
-line_up-requires-2 c = bytes_small c.requires.0 c.requires.1 c.requires.2 (spread_at _ _ _ _ _ _ _ _ _ _ _ c.members_pass-measured.result c.members_pass-measured.ensures c.in-Done.is)
+pub members_pass-requires-then-not-is_measuring : goal.members_pass-requires-then-not-is_measuring
+members_pass-requires-then-not-is_measuring c = lined-begins c.requires.0 c.requires.1 c.requires.2 c.in_ok-measured.ensures.spreads c.line_up.ensures.0 c.line_up.ensures.1
 
-pub members_pass-stored-requires : goal.members_pass-stored-requires
-members_pass-stored-requires c = lined-begins c.requires.0 c.requires.1 c.requires.2 (spread_at _ _ _ _ _ _ _ _ _ _ _ c.members_pass-measured.result c.members_pass-measured.ensures c.in-Done.is) c.line_up.ensures c.line_up-2.ensures
+pub returns-clause-gathers : goal.returns-clause-gathers
+returns-clause-gathers c =
+    elim c.if-not-is_measuring.branch [
+      | then-not-is_measuring+in_ok-members_pass w ↦ rw w.store-is (spread_twice c.requires.0 c.requires.1 c.requires.2 c.in_ok-measured.ensures.spreads w.line_up.ensures.0 w.line_up.ensures.1 w.in_ok-members_pass.ensures.spreads)
+      | else-not-is_measuring w ↦
+          let n = lent-nothing _ _ (sym c.is_measuring.ensures ∙ w.if-not-is_measuring.false) in
+          rw w.store-is (spread_none c.requires.0 c.requires.1 c.requires.2 c.in_ok-measured.ensures.spreads n.0 n.1)
+    ]
 
-pub returns-in_default-stored : goal.returns-in_default-stored
-returns-in_default-stored c = rw c.in_default-stored.is (spread_not _ _ _ _ _ _ _ _ _ _ _ c.members_pass-stored.result c.members_pass-stored.ensures c.in_default-stored.is, tt)
-
-pub bounds-words-0-2 : goal.bounds-words-0-2
-bounds-words-0-2 c = let k = all_after c.requires.0 c.requires.1 c.requires.2 (spread_at _ _ _ _ _ _ _ _ _ _ _ c.members_pass-measured.result c.members_pass-measured.ensures c.in-Done.is) c.line_up.ensures c.line_up-2.ensures (spread_at _ _ _ _ _ _ _ _ _ _ _ c.members_pass-stored.result c.members_pass-stored.ensures c.in-Done-stored.is) in omega arith
-
-pub overflow_add-result-2 : goal.overflow_add-result-2
-overflow_add-result-2 c = let k = (spread_small c.requires.0 c.requires.1 c.requires.2 (spread_at _ _ _ _ _ _ _ _ _ _ _ c.members_pass-measured.result c.members_pass-measured.ensures c.in-Done.is)).0 in omega arith
-
-pub overflow_add-result-3 : goal.overflow_add-result-3
-overflow_add-result-3 c = let k = (spread_small c.requires.0 c.requires.1 c.requires.2 (spread_at _ _ _ _ _ _ _ _ _ _ _ c.members_pass-measured.result c.members_pass-measured.ensures c.in-Done.is)).1 in omega arith
-
-pub shape_of-words : goal.shape_of-words
-shape_of-words c = simp length-set (omega (arith, c.words-1.given, c.words-2-1.given, c.words-3-1.given))
-
-pub returns : goal.returns
-returns c = let j = (spread_at _ _ _ _ _ _ _ _ _ _ _ c.members_pass-measured.result c.members_pass-measured.ensures c.in-Done.is) in let k = (spread_at _ _ _ _ _ _ _ _ _ _ _ c.members_pass-stored.result c.members_pass-stored.ensures c.in-Done-stored.is) in (spread_over c.requires.0 c.requires.1 c.requires.2 j c.line_up.ensures c.line_up-2.ensures k (before-words j refl c.args.records.now) (before-texts j refl c.args.texts.now), first-kept c.requires.0 c.requires.1 c.requires.2 j c.line_up.ensures c.line_up-2.ensures k)
+pub returns-clause-first : goal.returns-clause-first
+returns-clause-first c =
+    elim c.if-not-is_measuring.branch [
+      | then-not-is_measuring+in_ok-members_pass w ↦
+          rw (w.groups-is, words-set w.members_pass-then-not-is_measuring.new.places 0 _, ← words-at c.members_pass.new.places 0)
+          (first-kept c.requires.0 c.requires.1 c.requires.2 c.in_ok-measured.ensures.spreads w.line_up.ensures.0 w.line_up.ensures.1 w.in_ok-members_pass.ensures.spreads)
+      | else-not-is_measuring w ↦ rw w.groups-is (first-size c.requires.0 c.requires.1 c.requires.2 c.in_ok-measured.ensures.spreads)
+    ]

@@ -1,60 +1,54 @@
 -- `directives::parse_external_set` meets its contract.
 -- Assumes nothing.
 use native.Mathlib.Omega.{arith}
+use Rattle.tokens.proofs.Stops.{stopped}
 use Rattle.parser.proofs.HeadRules.{short_asks}
-use Rattle.parser.proofs.Ready.{part-short, name-got, identifier_at, identifier_not}
-use Rattle.declarations.proofs.SourceLaws.{source-at, source_not, from-small}
+use Rattle.parser.proofs.Ready.{part-short, name-got}
+use Rattle.declarations.proofs.SourceLaws.{from-small}
 use Rattle.reader.proofs.RoomyLaws.{roomy_ready}
-use Rattle.reader.proofs.Gathered.{gathered, gathered_not}
 use Rattle.reader.proofs.DirectiveLaws.{gathers-small, set-name, set-source, set-block, set_room, set_asks, set_given}
-use Rattle.tokens.proofs.Told.{taken_told}
-use Rattle.parser.proofs.Told.{listed_told}
 use Rattle.reader.proofs.directives.parse_external_set.Goals as goal
 
-pub returns-in_default : goal.returns-in_default
-returns-in_default c = set-name _ _ (identifier_not _ _ _ c.parse_identifier-taken.ensures (taken_told c.in_default.is c.cause.ensures c.place.ensures))
+pub returns-in_err-name-clause-parses : goal.returns-in_err-name-clause-parses
+returns-in_err-name-clause-parses c = rw (stopped c.from_residual.result c.from_residual.ensures.1) (set-name _ _ c.in_err-name.ensures.takes)
 
-pub parse_source-sourced-requires : goal.parse_source-sourced-requires
-parse_source-sourced-requires c = (name-got _ _ c.requires.0.lies c.in-Got.is c.parse_identifier-taken.ensures).1.onward.lies
+pub parse_source-requires : goal.parse_source-requires
+parse_source-requires c = (name-got _ c.requires.0.lies c.in_ok-name.ensures).1.onward.lies
 
-pub returns-in_default-sourced : goal.returns-in_default-sourced
-returns-in_default-sourced c = set-source _ _ (identifier_at _ _ _ c.parse_identifier-taken.ensures c.in-Got.is) (source_not _ _ _ c.parse_source-sourced.ensures (taken_told c.in_default-sourced.is c.cause-in_default-sourced.ensures c.place-in_default-sourced.ensures))
+pub returns-in_err-from-clause-parses : goal.returns-in_err-from-clause-parses
+returns-in_err-from-clause-parses c = rw (stopped c.from_residual-in_err-from.result c.from_residual-in_err-from.ensures.1) (set-source _ _ c.in_ok-name.ensures.takes c.in_err-from.ensures)
 
-pub slice_bounds-put_string-count : goal.slice_bounds-put_string-count
-slice_bounds-put_string-count c = (source-at _ _ _ c.parse_source-sourced.ensures c.in-Got-sourced.is).part.forth
+pub of-requires : goal.of-requires
+of-requires c = let h = c.in_ok-from.ensures.part in (h.forth, h.inside)
 
-pub slice_bounds-put_string-start : goal.slice_bounds-put_string-start
-slice_bounds-put_string-start c = (source-at _ _ _ c.parse_source-sourced.ensures c.in-Got-sourced.is).part.forth
+pub put_string-requires : goal.put_string-requires
+put_string-requires c =
+    let r = roomy_ready c.requires.0 in
+    let w = from-small r in
+    rw c.of.ensures (short_asks r.small (part-short _ c.in_ok-from.ensures.part) (omega arith) (omega arith) (let k = w.0 in omega arith) (let k = w.1 in omega arith))
 
-pub slice_bounds-put_string-end : goal.slice_bounds-put_string-end
-slice_bounds-put_string-end c = (source-at _ _ _ c.parse_source-sourced.ensures c.in-Got-sourced.is).part.inside
+pub parse_block-requires : goal.parse_block-requires
+parse_block-requires c = set_room c.requires.0 c.in_ok-name.ensures c.in_ok-from.ensures (rw c.of.ensures at c.put_string.ensures.stores) (rw c.of.ensures at c.put_string.ensures.few)
 
-pub put_string-from-requires : goal.put_string-from-requires
-put_string-from-requires c = let r = roomy_ready c.requires.0 in let w = from-small r in short_asks r.small (part-short _ (source-at _ _ _ c.parse_source-sourced.ensures c.in-Got-sourced.is).part) (omega arith) (omega arith) (let k = w.0 in omega arith) (let k = w.1 in omega arith)
+pub returns-in_err-after-clause-parses : goal.returns-in_err-after-clause-parses
+returns-in_err-after-clause-parses c =
+    rw (stopped c.from_residual-in_err-after.result c.from_residual-in_err-after.ensures.1) (set-block _ _ c.in_ok-name.ensures.takes c.in_ok-from.ensures.gives c.in_err-after.ensures.gathers)
 
-pub parse_block-listed-requires : goal.parse_block-listed-requires
-parse_block-listed-requires c = set_room c.requires.0 _ c.parse_identifier-taken.ensures c.in-Got.is (source-at _ _ _ c.parse_source-sourced.ensures c.in-Got-sourced.is) c.put_string-from.ensures
-
-pub returns-in_default-listed : goal.returns-in_default-listed
-returns-in_default-listed c = set-block _ _ (identifier_at _ _ _ c.parse_identifier-taken.ensures c.in-Got.is) (source-at _ _ _ c.parse_source-sourced.ensures c.in-Got-sourced.is).gives (gathered_not _ _ _ _ _ _ _ _ c.parse_block-listed.result c.parse_block-listed.ensures (listed_told c.in_default-listed.is c.cause-in_default-listed.ensures c.place-in_default-listed.ensures))
-
-pub slice_bounds-put_named-count : goal.slice_bounds-put_named-count
-slice_bounds-put_named-count c = (name-got _ _ c.requires.0.lies c.in-Got.is c.parse_identifier-taken.ensures).0.part.forth
-
-pub slice_bounds-put_named-start : goal.slice_bounds-put_named-start
-slice_bounds-put_named-start c = (name-got _ _ c.requires.0.lies c.in-Got.is c.parse_identifier-taken.ensures).0.part.forth
-
-pub slice_bounds-put_named-end : goal.slice_bounds-put_named-end
-slice_bounds-put_named-end c = (name-got _ _ c.requires.0.lies c.in-Got.is c.parse_identifier-taken.ensures).0.part.inside
+pub of-requires-2 : goal.of-requires-2
+of-requires-2 c = let h = (name-got _ c.requires.0.lies c.in_ok-name.ensures).0.part in (h.forth, h.inside)
 
 pub overflow_add-before : goal.overflow_add-before
 overflow_add-before c = omega (arith, c.requires.2)
 
 pub overflow_add-before-2 : goal.overflow_add-before-2
-overflow_add-before-2 c = let g = gathers-small (gathered _ _ _ _ _ _ _ _ c.parse_block-listed.result c.parse_block-listed.ensures c.in-Done.is) c.requires.0.small in omega (arith, c.requires.2)
+overflow_add-before-2 c = let g = gathers-small c.in_ok-after.ensures.gathers c.requires.0.small in omega (arith, c.requires.2)
 
-pub put_named-put-requires : goal.put_named-put-requires
-put_named-put-requires c = set_asks c.requires.0 _ c.parse_identifier-taken.ensures c.in-Got.is (source-at _ _ _ c.parse_source-sourced.ensures c.in-Got-sourced.is) c.put_string-from.ensures c.args.block (gathered _ _ _ _ _ _ _ _ c.parse_block-listed.result c.parse_block-listed.ensures c.in-Done.is) c.requires.1 (omega (arith, c.requires.2))
+pub put_named-requires : goal.put_named-requires
+put_named-requires c =
+    rw c.of-2.ensures
+    (set_asks c.requires.0 c.in_ok-name.ensures c.in_ok-from.ensures (rw c.of.ensures at c.put_string.ensures.stores) (rw c.of.ensures at c.put_string.ensures.few) c.args.block c.in_ok-after.ensures.gathers c.requires.1 (omega (arith, c.requires.2)))
 
-pub returns : goal.returns
-returns c = set_given c.requires.0 _ c.parse_identifier-taken.ensures c.in-Got.is (source-at _ _ _ c.parse_source-sourced.ensures c.in-Got-sourced.is) c.put_string-from.ensures c.args.block (gathered _ _ _ _ _ _ _ _ c.parse_block-listed.result c.parse_block-listed.ensures c.in-Done.is) c.args.before c.put_named-put.ensures
+pub returns-clause-parses : goal.returns-clause-parses
+returns-clause-parses c =
+    set_given c.requires.0 c.in_ok-name.ensures c.in_ok-from.ensures (rw c.of.ensures at c.put_string.ensures.stores) (rw c.of.ensures at c.put_string.ensures.few) c.args.block c.in_ok-after.ensures.gathers c.args.before
+    (rw c.of-2.ensures at c.put_named.ensures.stores)

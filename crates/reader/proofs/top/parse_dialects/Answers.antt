@@ -1,20 +1,18 @@
 -- `top::parse_dialects` meets its contract.
 -- Assumes nothing.
-use Rattle.parser.proofs.Openings.{listed, listed_not}
 use Rattle.reader.specs.Directives.{dialects_at}
-use Rattle.reader.proofs.TopLaws.{past_not, past_ready, dialects-refused, dialects-declares}
-use Rattle.tokens.proofs.Told.{arrived_told}
-use Rattle.parser.proofs.Told.{listed_told}
+use Rattle.reader.proofs.TopLaws.{ready-first, past_not, past_ready, dialects-refused, dialects-declares}
+use Rattle.tokens.proofs.Stops.{stopped}
 use Rattle.reader.proofs.top.parse_dialects.Goals as goal
 
-pub returns-in_default : goal.returns-in_default
-returns-in_default c = λ before q. past_not _ _ _ c.next-arrived.ensures dialects_at (arrived_told c.in_default.is c.cause.ensures c.place.ensures)
+pub returns-in_err-keyword-clause-declares : goal.returns-in_err-keyword-clause-declares
+returns-in_err-keyword-clause-declares c = rw (stopped c.from_residual.result c.from_residual.ensures.1) (λ before q. past_not _ _ dialects_at c.in_err-keyword.ensures.0)
 
-pub parse_names-listed-requires : goal.parse_names-listed-requires
-parse_names-listed-requires c = past_ready _ _ _ c.next-arrived.ensures c.in-At.is c.requires.1 c.requires.0.lies c.requires.0
+pub parse_names-requires : goal.parse_names-requires
+parse_names-requires c = rw c.measuring.ensures (ready-first (past_ready _ _ _ c.in_ok-keyword.ensures c.requires.1 c.requires.0.lies c.requires.0))
 
-pub returns-in_default-listed : goal.returns-in_default-listed
-returns-in_default-listed c = λ before q. dialects-refused c.args.seen _ _ _ c.next-arrived.ensures c.in-At.is (listed_not _ _ _ _ _ _ _ _ c.parse_names-listed.result c.parse_names-listed.ensures (listed_told c.in_default-listed.is c.cause-in_default-listed.ensures c.place-in_default-listed.ensures))
+pub returns-in_err-after-clause-declares : goal.returns-in_err-after-clause-declares
+returns-in_err-after-clause-declares c = rw (stopped c.from_residual-in_err-after.result c.from_residual-in_err-after.ensures.1) (λ before q. dialects-refused c.args.seen _ _ _ c.in_ok-keyword.ensures c.in_err-after.ensures.parses)
 
-pub returns : goal.returns
-returns c = dialects-declares _ _ _ _ c.next-arrived.ensures c.in-At.is c.requires.1 c.requires.0.lies (listed _ _ _ _ _ _ _ _ c.parse_names-listed.result c.parse_names-listed.ensures c.in-Done.is)
+pub returns-clause-declares : goal.returns-clause-declares
+returns-clause-declares c = rw c.of_kind.ensures (dialects-declares _ _ _ _ c.in_ok-keyword.ensures c.requires.1 c.requires.0.lies _ c.in_ok-after.ensures.parses)

@@ -5,14 +5,16 @@ use Rattle.notation.specs.Declarations.{parse_external_prop_source}
 use Rattle.parser.specs.Storing.{nodes_of}
 use Rattle.declarations.specs.Sources.{from_branch}
 use Rattle.reader.proofs.TopLaws.{parses_as, past_not, past_ready, parses_past, prop_source_by, prop-source-is, prop-source-nodes}
-use Rattle.tokens.proofs.Told.{arrived_told}
+use Rattle.tokens.proofs.Stops.{stopped}
 use Rattle.reader.proofs.top.parse_prop_source.Goals as goal
 
-pub returns-in_default : goal.returns-in_default
-returns-in_default c = past_not _ _ _ c.next-arrived.ensures (parse_external_prop_source c.args.start) (arrived_told c.in_default.is c.cause.ensures c.place.ensures)
+pub returns-in_err-word-clause-parses : goal.returns-in_err-word-clause-parses
+returns-in_err-word-clause-parses c = rw (stopped c.from_residual.result c.from_residual.ensures.1) (past_not _ _ (parse_external_prop_source c.args.start) c.in_err-word.ensures.0)
 
 pub parse_from-requires : goal.parse_from-requires
-parse_from-requires c = (past_ready _ _ _ c.next-arrived.ensures c.in-At.is c.requires.1 c.requires.0.lies c.requires.0, c.requires.2)
+parse_from-requires c = (past_ready _ _ _ c.in_ok-word.ensures c.requires.1 c.requires.0.lies c.requires.0, c.requires.2)
 
-pub returns : goal.returns
-returns c = parses_past _ _ _ c.next-arrived.ensures c.in-At.is c.requires.1 c.requires.0.lies (parse_external_prop_source c.args.start) (nodes_of declaration_branch) _ _ _ c.parse_from.result (parses_as (prop_source_by c.args.start) (nodes_of (from_branch 19 c.args.start)) (nodes_of declaration_branch) (prop-source-nodes c.args.start) _ _ (prop-source-is c.args.start _) _ _ _ _ _ c.parse_from.result c.parse_from.ensures)
+pub returns-clause-parses : goal.returns-clause-parses
+returns-clause-parses c =
+    parses_past _ _ _ c.in_ok-word.ensures c.requires.1 c.requires.0.lies (parse_external_prop_source c.args.start) (nodes_of declaration_branch) _ _ c.parse_from.result
+    (parses_as (prop_source_by c.args.start) (nodes_of (from_branch 19 c.args.start)) (nodes_of declaration_branch) (prop-source-nodes c.args.start) _ _ (prop-source-is c.args.start _) _ _ _ _ c.parse_from.result c.parse_from.ensures.parses)

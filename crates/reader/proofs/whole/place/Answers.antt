@@ -1,44 +1,56 @@
 -- `whole::place` meets its contract.
 -- Assumes nothing.
-use native.Mathlib.Omega.{arith}
-use Rattle.reader.proofs.TopPlaces.{kind-place, place-last}
+use Rattle.reader.specs.Places.{place_in}
+use Rattle.reader.proofs.TopPlaces.{place-last}
 use Rattle.reader.proofs.whole.place.Goals as goal
 
-pub returns-in-2 : goal.returns-in-2
-returns-in-2 c = kind-place 0 (omega arith) _ c.in-2.is
+pub returns-in-TopRule : goal.returns-in-TopRule
+unfolding place_in
+returns-in-TopRule c = rw c.in-TopRule.is
 
-pub returns-in-3 : goal.returns-in-3
-returns-in-3 c = kind-place 1 (omega arith) _ c.in-3.is
+pub returns-in-Rule : goal.returns-in-Rule
+unfolding place_in
+returns-in-Rule c = rw c.in-Rule.is
 
-pub returns-in-8 : goal.returns-in-8
-returns-in-8 c = kind-place 2 (omega arith) _ c.in-8.is
+pub returns-in-Tokens : goal.returns-in-Tokens
+unfolding place_in
+returns-in-Tokens c = rw c.in-Tokens.is
 
-pub returns-in-12 : goal.returns-in-12
-returns-in-12 c = kind-place 3 (omega arith) _ c.in-12.is
+pub returns-in-LocalTokens : goal.returns-in-LocalTokens
+unfolding place_in
+returns-in-LocalTokens c = rw c.in-LocalTokens.is
 
-pub returns-in-14 : goal.returns-in-14
-returns-in-14 c = kind-place 4 (omega arith) _ c.in-14.is
+pub returns-in-Context : goal.returns-in-Context
+unfolding place_in
+returns-in-Context c = rw c.in-Context.is
 
-pub returns-in-16 : goal.returns-in-16
-returns-in-16 c = kind-place 5 (omega arith) _ c.in-16.is
+pub returns-in-ExternalTokens : goal.returns-in-ExternalTokens
+unfolding place_in
+returns-in-ExternalTokens c = rw c.in-ExternalTokens.is
 
-pub returns-in-18 : goal.returns-in-18
-returns-in-18 c = kind-place 6 (omega arith) _ c.in-18.is
+pub returns-in-ExternalSpecializer : goal.returns-in-ExternalSpecializer
+unfolding place_in
+returns-in-ExternalSpecializer c = rw c.in-ExternalSpecializer.is
 
-pub returns-in-19 : goal.returns-in-19
-returns-in-19 c = kind-place 7 (omega arith) _ c.in-19.is
+pub returns-in-PropSource : goal.returns-in-PropSource
+unfolding place_in
+returns-in-PropSource c = rw c.in-PropSource.is
 
-pub returns-in-20 : goal.returns-in-20
-returns-in-20 c = kind-place 8 (omega arith) _ c.in-20.is
+pub returns-in-Precedences : goal.returns-in-Precedences
+unfolding place_in
+returns-in-Precedences c = rw c.in-Precedences.is
 
-pub returns-in-22 : goal.returns-in-22
-returns-in-22 c = kind-place 9 (omega arith) _ c.in-22.is
+pub returns-in-MainSkip : goal.returns-in-MainSkip
+unfolding place_in
+returns-in-MainSkip c = rw c.in-MainSkip.is
 
-pub returns-in-23 : goal.returns-in-23
-returns-in-23 c = kind-place 10 (omega arith) _ c.in-23.is
+pub returns-in-ScopedSkip : goal.returns-in-ScopedSkip
+unfolding place_in
+returns-in-ScopedSkip c = rw c.in-ScopedSkip.is
 
-pub returns-in-25 : goal.returns-in-25
-returns-in-25 c = kind-place 11 (omega arith) _ c.in-25.is
+pub returns-in-ExternalProp : goal.returns-in-ExternalProp
+unfolding place_in
+returns-in-ExternalProp c = rw c.in-ExternalProp.is
 
 pub returns-in_default : goal.returns-in_default
-returns-in_default c = let h = c.in_default.in_default-own.rest in place-last _ (h.0.0.0.0.0.0.0.0.0.0.0.1, (h.0.0.0.0.0.0.0.0.0.0.1, (h.0.0.0.0.0.0.0.0.0.1, (h.0.0.0.0.0.0.0.0.1, (h.0.0.0.0.0.0.0.1, (h.0.0.0.0.0.0.1, (h.0.0.0.0.0.1, (h.0.0.0.0.1, (h.0.0.0.1, (h.0.0.1, (h.0.1, (h.1, tt))))))))))))
+returns-in_default c = place-last c.args.kind c.in_default.not-TopRule c.in_default.not-Rule c.in_default.not-Tokens c.in_default.not-LocalTokens c.in_default.not-Context c.in_default.not-ExternalTokens c.in_default.not-ExternalSpecializer c.in_default.not-PropSource c.in_default.not-Precedences c.in_default.not-MainSkip c.in_default.not-ScopedSkip c.in_default.not-ExternalProp

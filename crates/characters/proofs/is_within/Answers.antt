@@ -1,9 +1,0 @@
--- `characters::is_within` meets its contract. Assumes nothing.
-use borrow.Author.Tests.{le-leb, lt-leb}
-use Rattle.characters.proofs.is_within.Goals as goal
-
-pub returns-then-x-lo : goal.returns-then-x-lo
-returns-then-x-lo c = simp (lt-leb _ _ c.if-x-lo.true)
-
-pub returns : goal.returns
-returns c = simp (le-leb _ _ c.if-x-lo.false)

@@ -1,7 +1,0 @@
--- `output::put` meets its contract. Assumes nothing.
-use lib.Seq.{take-length}
-use Rattle.output.proofs.Writes.{adds-first}
-use Rattle.output.proofs.put.Goals as goal
-
-pub returns : goal.returns
-returns c = rw (take-length) at (adds-first c.put_bytes.ensures)

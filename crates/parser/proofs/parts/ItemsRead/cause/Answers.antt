@@ -1,8 +1,0 @@
--- `ItemsRead::cause` meets its contract.
--- Assumes nothing.
-use mathlib.Core.Path.{sym, ap}
-use Rattle.parser.specs.Shapes.{items_read_cause}
-use Rattle.parser.proofs.parts.ItemsRead.cause.Goals as goal
-
-pub returns-in-Refused : goal.returns-in-Refused
-returns-in-Refused c = sym (ap items_read_cause c.in-Refused.is)

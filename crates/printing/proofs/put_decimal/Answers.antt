@@ -1,8 +1,0 @@
--- `printing::put_decimal` meets its contract. Assumes nothing.
-use native.Mathlib.Omega.{arith}
-use Rattle.output.proofs.Writes.{adds-first}
-use Rattle.printing.proofs.Decimals.{of_word}
-use Rattle.printing.proofs.put_decimal.Goals as goal
-
-pub returns : goal.returns
-returns c = adds-first (of_word (omega arith) c.put_digits.ensures)

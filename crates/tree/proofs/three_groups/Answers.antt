@@ -1,8 +1,0 @@
--- `tree::three_groups` meets its contract. Assumes nothing.
-use mathlib.Core.Path.{refl}
-use Rattle.tree.specs.Promise.{groups_in}
-use Rattle.tree.proofs.three_groups.Goals as goal
-
-pub returns : goal.returns
-unfolding groups_in
-returns c = (refl, refl)
