@@ -12,7 +12,7 @@ import re
 import subprocess
 import sys
 
-ITEM = re.compile(r"^\s*pub (?:const )?(fn|struct|enum|const|type) (\w+)")
+ITEM = re.compile(r"^\s*pub (?:const )?(?:extern \"C\" )?(fn|struct|enum|const|type) (\w+)")
 IMPL = re.compile(r"^impl(?:<[^>]*>)? (.*?) \{$")
 GHOST = re.compile(r"^\s*ghost (\w+) = ")
 NAME = re.compile(r"^(?:(?:pub|abbrev|unfoldable|record|data) )*([^\s:{(]+)")
@@ -84,7 +84,7 @@ def read(names, show):
                 held[(part[1], "src", "::".join(p for p in (module, name) if p))] = said
         elif part[2] == "specs" and path.endswith(".antt"):
             for name, said in specs(show(path)).items():
-                held[(part[1], "specs", name)] = said
+                held[(part[1], "specs", f"{part[3][:-5]}.{name}")] = said
     return held
 
 

@@ -63,7 +63,8 @@ nodes_of f x = nodes (f x)
 unfoldable pub span_words : (start : ℕ) → List Span → List ℕ
 span_words p ss = words (records_from 0 (flat (nodes_of (span_branch p)) ss))
 
--- the spans of a body are stored in ascending order, no more of them than it has bytes; of a set that is stopped nothing is said
+-- the spans of a body are stored in ascending order, no more of them than it has bytes; a set that is stopped takes no
+-- words
 abbrev pub StoresSet : (body : List ℕ) (start : ℕ) (a b : Lent) → Result ℕ Cause → Type 0
 StoresSet t p a b (Ok m) = (m ≤ length t) × (m ≡ length (sorted (spans (codes t)))) × Stores (flat (nodes_of (span_branch p)) (sorted (spans (codes t)))) a b
-StoresSet t p a b (Err c) = Unit {0}
+StoresSet t p a b (Err c) = b.n ≡ a.n
