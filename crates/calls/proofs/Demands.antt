@@ -27,7 +27,7 @@ use Rattle.calls.specs.Promise.{read_outcome, ReadTo, normal_answer, normal_outc
 use Rattle.calls.specs.Demands.{ReadIsSettled, NormalTextIsSettled, StructurallyEqIsSettled, RefusedAs, StoredAs, Answers, ReadAnswersAsDefined, EqualExactlyWhenTreesAgree, Agreeing, NormalTextsAreTheirOwn, NormalTextIsWritten, NormalTextIsTooLong}
 use Rattle.std.specs.Prelude.{Result, Ok, Err}
 use Rattle.error.specs.declared.Refusal.{Refusal}
-use Rattle.reader.specs.declared.whole.Stored.{Stored}
+use Rattle.reader.specs.declared.blocks.Extent.{Extent}
 use Rattle.calls.proofs.NormalLaws.{roomed}
 
 -- ------------------------------------------------------------------ 1
@@ -86,7 +86,7 @@ structurally_eq_is-settled ls lts rs rts r q a b = a ∙ sym b
 
 -- ------------------------------------------------------------------ 2
 
-module _ (s ws ts : List ℕ) (r : Result Stored Refusal) (vs us : List ℕ) (a : ReadTo s ws ts r vs us) where
+module _ (s ws ts : List ℕ) (r : Result Extent Refusal) (vs us : List ℕ) (a : ReadTo s ws ts r vs us) where
   -- the parts of what the call comes to
   as_refused : {n p : ℕ} → room_for (length ws) (length ts) (reading s) ≡ stopped n p → RefusedAs n p s ws ts r vs us
   unfolding read

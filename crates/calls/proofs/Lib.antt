@@ -1,3 +1,4 @@
+pub mod Mapped
 pub mod ReadLaws
 pub mod NormalLaws
 pub mod CompareLaws

@@ -25,7 +25,7 @@ use Rattle.grammar.specs.Calls as Calls
 use Rattle.grammar.specs.Calls.{room_for, read_by, read, ReadOutcome, write_by, normal_by, normal}
 use Rattle.laws.proofs.Accepted.{not_tree}
 use Rattle.calls.specs.Promise.{Kept, read_outcome, ReadTo, Few, normal_outcome, WriteTo, NormalTo}
-use Rattle.reader.specs.declared.whole.Stored.{Stored as StoredTree}
+use Rattle.reader.specs.declared.blocks.Extent.{Extent}
 use Rattle.std.specs.Prelude.{Result, Ok, Err}
 use Rattle.calls.proofs.ReadLaws.{reading_long}
 
@@ -66,7 +66,7 @@ apart e = impossible (cc)
 same-sizes : {n x m y : ℕ} → Calls.ReadAnswer.stored n x ≡ Calls.ReadAnswer.stored m y → (n ≡ m) × (x ≡ y)
 same-sizes e = (cc, cc)
 
-module _ (s ws ts vs us : List ℕ) (r : StoredTree) where
+module _ (s ws ts vs us : List ℕ) (r : Extent) where
   by-reading : (a : Reading) → room_for (length ws) (length ts) (reading s) ≡ a → read_outcome (Ok r) vs us ≡ read_by s ws ts a → r.words ≤ 28 * length s + 7 → Kept s ws ts vs us r
   by-reading (stopped m p) q e few = apart (ap (λ (o : ReadOutcome). o.answer) e)
   by-reading (tree g) q e few =
@@ -86,7 +86,7 @@ module _ (s ws ts vs us : List ℕ) (r : StoredTree) where
   kept e few = by-reading (room_for (length ws) (length ts) (reading s)) refl e few
 
 -- the words and texts are those that the writer asks for
-module _ {s ws ts vs us : List ℕ} {r : StoredTree} (k : Kept s ws ts vs us r) where
+module _ {s ws ts vs us : List ℕ} {r : Extent} (k : Kept s ws ts vs us r) where
   pub kept-inside : r.words ≤ length vs
   kept-inside = let e = k.words in let l = ap length k.records ∙ length-append (grammar_words k.grammar) (drop (length (grammar_words k.grammar)) ws) in omega arith
 
@@ -154,7 +154,7 @@ module _ (s : List ℕ) {ws ts out new : List ℕ} where
   write_full does f i k vs us = full_by s out new vs us k.grammar (does k) f i (too_long longest (normal_text k.grammar) out) refl
 
 -- of the tree that was kept it is the call's
-pub normal-kept : {s ws ts vs us : List ℕ} {r : StoredTree} (k : Kept s ws ts vs us r) → (out new : List ℕ) (a : Result ℕ declared.Refusal)
+pub normal-kept : {s ws ts vs us : List ℕ} {r : Extent} (k : Kept s ws ts vs us r) → (out new : List ℕ) (a : Result ℕ declared.Refusal)
     → WriteTo s (take r.words vs) us out a new → NormalTo s ws ts out a vs us new
 unfolding normal normal_by kept-stored
 normal-kept {s} {ws} {ts} k out new a w = rw (k.is, k.records, k.texts) (w (kept-stored k) ws ts)

@@ -20,7 +20,7 @@ use Rattle.tree.specs.Stored.{grammar_words, grammar_texts}
 use Rattle.notation.specs.Parser as Parser
 use Rattle.notation.specs.Declarations.{parse_grammar}
 use Rattle.reader.specs.Whole.{Read, Stopped, by-text, by-words, by_bytes, Reads}
-use Rattle.reader.specs.declared.whole.Stored.{Stored}
+use Rattle.reader.specs.declared.blocks.Extent.{Extent}
 use Rattle.grammar.specs.Reading.{tree, stopped, reading, longest}
 use Rattle.grammar.specs.Calls.{room_for, read}
 use Rattle.calls.specs.Promise.{Kept, ReadingTo, ReadTo}
@@ -66,7 +66,7 @@ module _ (s ws ts : List ℕ) where
 
 -- what the reader does with a text that is UTF-8 and not too long
 module _ (s ws ts vs us : List ℕ) (h : length s ≤ longest) (e : check s ≡ Ok tt) where
-  stored : (r : Stored) → Read s ws ts vs us r.words r.bytes → Kept s ws ts vs us r
+  stored : (r : Extent) → Read s ws ts vs us r.words r.bytes → Kept s ws ts vs us r
   unfolding room_for
   stored r k =
       let g = k.tree in
@@ -89,14 +89,14 @@ module _ (s ws ts vs us : List ℕ) (h : length s ≤ longest) (e : check s ≡ 
   stopped_so (by_bytes k) =
       rw (reading-tree s h e k.gives, room_for, le-ltb (length ws) (length (grammar_words k.tree)) k.fits, lt-ltb (length ts) (length (grammar_texts k.tree)) k.short, k.cause-is, k.place_is)
 
-  pub parsed : (r : Result Stored Stop) → Reads s ws ts vs us r → ReadingTo s ws ts r vs us
+  pub parsed : (r : Result Extent Stop) → Reads s ws ts vs us r → ReadingTo s ws ts r vs us
   parsed (Ok r) k = stored r k
   parsed (Err d) k = (stopped_so k.0, k.1, k.2)
 
 -- ------------------------------------------------------------------ what `read` comes to
 
 module _ (s ws ts vs us : List ℕ) where
-  pub kept-read : (r : Stored) → Kept s ws ts vs us r → ReadTo s ws ts (Ok r) vs us
+  pub kept-read : (r : Extent) → Kept s ws ts vs us r → ReadTo s ws ts (Ok r) vs us
   unfolding read
   kept-read r k = rw (read, k.is, k.words, k.bytes, k.records, k.texts)
 

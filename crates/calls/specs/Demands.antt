@@ -14,7 +14,7 @@ use Rattle.grammar.specs.Calls as Calls
 use Rattle.basics.specs.Basics.{over}
 use Rattle.calls.specs.Promise.{read_answer, read_outcome, ReadTo, normal_answer, normal_outcome, NormalTo, compare_answer, CompareTo}
 use Rattle.error.specs.declared.Refusal.{Refusal}
-use Rattle.reader.specs.declared.whole.Stored.{Stored}
+use Rattle.reader.specs.declared.blocks.Extent.{Extent}
 
 -- what a text is read as
 abbrev Tree : Type 0
@@ -25,7 +25,7 @@ Tree = GrammarDeclaration ℕ
 -- Two runs of `read` on the same arguments come to the same, and what is lent keeps its length.
 abbrev pub ReadIsSettled : Type 0
 ReadIsSettled =
-    (s ws ts : List ℕ) (r q : Result Stored Refusal) (vs us xs ys : List ℕ) → ReadTo s ws ts r vs us → ReadTo s ws ts q xs ys
+    (s ws ts : List ℕ) (r q : Result Extent Refusal) (vs us xs ys : List ℕ) → ReadTo s ws ts r vs us → ReadTo s ws ts q xs ys
     → (read_outcome r vs us ≡ read_outcome q xs ys) × (length vs ≡ length ws) × (length us ≡ length ts)
 
 -- So do two of `normal_text`.
@@ -42,16 +42,16 @@ StructurallyEqIsSettled =
 -- ------------------------------------------------------------------ 2. `read` answers with the definition's tree, or with its refusal
 
 -- a refusal by a cause at a place, which leaves all as it was
-abbrev pub RefusedAs : (cause place : ℕ) → (text records texts : List ℕ) → Result Stored Refusal → (records_after texts_after : List ℕ) → Type 0
+abbrev pub RefusedAs : (cause place : ℕ) → (text records texts : List ℕ) → Result Extent Refusal → (records_after texts_after : List ℕ) → Type 0
 RefusedAs n p s ws ts r vs us = (read_answer r ≡ Calls.ReadAnswer.refused (refusal_at s n p)) × (vs ≡ ws) × (us ≡ ts)
 
 -- the tree is stored, and its sizes are answered
-abbrev pub StoredAs : Tree → (records texts : List ℕ) → Result Stored Refusal → (records_after texts_after : List ℕ) → Type 0
+abbrev pub StoredAs : Tree → (records texts : List ℕ) → Result Extent Refusal → (records_after texts_after : List ℕ) → Type 0
 StoredAs g ws ts r vs us =
     (read_answer r ≡ Calls.ReadAnswer.stored (length (grammar_words g)) (length (grammar_texts g))) × (vs ≡ over (grammar_words g) ws) × (us ≡ over (grammar_texts g) ts)
 
 -- A text that the definition refuses is refused so. Of one that it accepts the tree is stored where there is room; else there is 22 or 23.
-pub record Answers (s ws ts : List ℕ) (r : Result Stored Refusal) (vs us : List ℕ) : Type 0 where
+pub record Answers (s ws ts : List ℕ) (r : Result Extent Refusal) (vs us : List ℕ) : Type 0 where
   pub refuses : (n p : ℕ) → reading s ≡ stopped n p → RefusedAs n p s ws ts r vs us
   pub stores : (g : Tree) → reading s ≡ tree g → length (grammar_words g) ≤ length ws → length (grammar_texts g) ≤ length ts → StoredAs g ws ts r vs us
   pub no_words : (g : Tree) → reading s ≡ tree g → length ws < length (grammar_words g) → RefusedAs records_full 0 s ws ts r vs us
@@ -59,7 +59,7 @@ pub record Answers (s ws ts : List ℕ) (r : Result Stored Refusal) (vs us : Lis
 
 -- Every answer of `read` is so.
 abbrev pub ReadAnswersAsDefined : Type 0
-ReadAnswersAsDefined = (s ws ts : List ℕ) (r : Result Stored Refusal) (vs us : List ℕ) → ReadTo s ws ts r vs us → Answers s ws ts r vs us
+ReadAnswersAsDefined = (s ws ts : List ℕ) (r : Result Extent Refusal) (vs us : List ℕ) → ReadTo s ws ts r vs us → Answers s ws ts r vs us
 
 -- ------------------------------------------------------------------ 3. normal texts
 

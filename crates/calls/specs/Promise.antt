@@ -4,7 +4,7 @@ use Rattle.std.specs.Prelude.{ℕ, ◌+◌, ◌*◌, ◌≤◌, ◌≡◌, Bool,
 use Rattle.error.specs.Promise.{cause_number, refusal_of}
 use Rattle.error.specs.declared.Refusal.{Refusal}
 use Rattle.error.specs.declared.Stop.{Stop}
-use Rattle.reader.specs.declared.whole.Stored.{Stored as StoredTree}
+use Rattle.reader.specs.declared.blocks.Extent.{Extent}
 use Rattle.grammar.specs.Calls as Calls
 use Rattle.basics.specs.Basics.{over}
 use Rattle.grammar.specs.Reading.{tree, stopped, reading}
@@ -16,7 +16,7 @@ use Rattle.writer.specs.Promise.{Stored}
 -- ------------------------------------------------------------------ answers of the code as those of the definitions
 
 -- the answer of `read`
-abbrev pub read_answer : Result StoredTree Refusal → Calls.ReadAnswer
+abbrev pub read_answer : Result Extent Refusal → Calls.ReadAnswer
 read_answer (Ok r) = Calls.ReadAnswer.stored r.words r.bytes
 read_answer (Err f) = Calls.ReadAnswer.refused (refusal_of f)
 
@@ -33,7 +33,7 @@ compare_answer (Err f) = Calls.CompareAnswer.refused (refusal_of f)
 -- ------------------------------------------------------------------ what a call comes to
 
 -- its answer, and what records and texts hold once it has returned
-abbrev pub read_outcome : Result StoredTree Refusal → (records texts : List ℕ) → ReadOutcome
+abbrev pub read_outcome : Result Extent Refusal → (records texts : List ℕ) → ReadOutcome
 read_outcome r ws ts = record { answer = read_answer r; records = ws; texts = ts }
 
 -- its answer, and what records, texts and output hold once it has returned
@@ -43,7 +43,7 @@ normal_outcome r ws ts out = record { answer = normal_answer r; records = ws; te
 -- ------------------------------------------------------------------ what stops a reading, before its line is known
 
 -- the tree of a text is stored, and there was room for it
-pub record Kept (s ws ts vs us : List ℕ) (r : StoredTree) : Type 0 where
+pub record Kept (s ws ts vs us : List ℕ) (r : Extent) : Type 0 where
   pub grammar : GrammarDeclaration ℕ
   pub is : room_for (length ws) (length ts) (reading s) ≡ tree grammar
   pub words : r.words ≡ length (grammar_words grammar)
@@ -53,14 +53,14 @@ pub record Kept (s ws ts vs us : List ℕ) (r : StoredTree) : Type 0 where
   pub texts : us ≡ over (grammar_texts grammar) ts
 
 -- or the reading stops, by the text or for want of room, and all is left as it was
-abbrev pub ReadingTo : (text records texts : List ℕ) → Result StoredTree Stop → (records_after texts_after : List ℕ) → Type 0
+abbrev pub ReadingTo : (text records texts : List ℕ) → Result Extent Stop → (records_after texts_after : List ℕ) → Type 0
 ReadingTo s ws ts (Ok r) vs us = Kept s ws ts vs us r
 ReadingTo s ws ts (Err e) vs us = (room_for (length ws) (length ts) (reading s) ≡ stopped (cause_number e.cause) e.place) × (vs ≡ ws) × (us ≡ ts)
 
 -- ------------------------------------------------------------------ what the calls promise: just what the definitions say
 
 -- `read` on a text, with records and texts lent
-abbrev pub ReadTo : (text records texts : List ℕ) → Result StoredTree Refusal → (records_after texts_after : List ℕ) → Type 0
+abbrev pub ReadTo : (text records texts : List ℕ) → Result Extent Refusal → (records_after texts_after : List ℕ) → Type 0
 ReadTo s ws ts r vs us = read_outcome r vs us ≡ read s ws ts
 
 -- `normal_text` on a text, with records, texts and output lent
@@ -78,6 +78,6 @@ abbrev pub CompareTo : (left_records left_texts right_records right_texts : List
 CompareTo ls lts rs rts r = compare_answer r ≡ compare ls lts rs rts
 
 -- a tree takes at most 28 words for each byte of its text, and 7
-abbrev pub Few : (text : List ℕ) → Result StoredTree Refusal → Type 0
+abbrev pub Few : (text : List ℕ) → Result Extent Refusal → Type 0
 Few s (Ok r) = r.words ≤ 28 * length s + 7
 Few s (Err f) = Unit

@@ -1,18 +1,19 @@
-// The library's calls.
+// The library's calls. What a caller lends is slices of its own, each lent for itself (no heap; C hands them over so): `texts` takes the
+// bytes of a tree's texts and `output` a normal text, which are not parallel.
 #![tactic(auto)]
 
 ghost use Rattle.writer.specs.Promise.{Stored as StoredIn};
 ghost use Rattle.calls.specs.Promise.{ReadingTo, ReadTo, Few, WriteTo, NormalTo, CompareTo};
 
 use error::{Cause, Refusal, Stop};
-use reader::whole::Stored;
+use reader::blocks::Extent;
 use tree::Tree;
 
 // The most bytes that a text, or a normal text, may have.
 const LONGEST: usize = 65535;
 
 // The tree of a text, stored over the front of the words and bytes that are lent, or what stops its reading.
-fn parse(text: &[u8], records: &mut [u32], texts: &mut [u8]) -> Result<Stored, Stop>
+fn parse(text: &[u8], records: &mut [u32], texts: &mut [u8]) -> Result<Extent, Stop>
     ensures { ReadingTo text.now records.old texts.old result records.new texts.new }
 {
     if LONGEST < text.len() {
@@ -26,8 +27,9 @@ fn parse(text: &[u8], records: &mut [u32], texts: &mut [u8]) -> Result<Stored, S
 }
 
 // How many words and bytes the tree of a text takes, stored over the front of those that are lent, or why there is none. A refusal leaves
-// both as they were.
-pub fn read(text: &[u8], records: &mut [u32], texts: &mut [u8]) -> Result<Stored, Refusal>
+// both as they were. By a `match` and not `map_err`: two edits that the gate must refuse (`invented_count`, `invented_place`) change a
+// value in its arms.
+pub fn read(text: &[u8], records: &mut [u32], texts: &mut [u8]) -> Result<Extent, Refusal>
     ensures outcome { ReadTo text.now records.old texts.old result records.new texts.new }
     ensures few { Few text.now result }
 {
@@ -42,16 +44,15 @@ fn write(text: &[u8], tree: Tree, output: &mut [u8]) -> Result<usize, Refusal>
     requires { StoredIn tree.records.now tree.texts.now }
     ensures { WriteTo text.now tree.entry.records.now tree.entry.texts.now output.old result output.new }
 {
-    let Ok(bytes) = writer::write_normal_text(tree, LONGEST, output) else {
-        return Err(error::refuse(
+    writer::write_normal_text(tree, LONGEST, output).map_err(|_| {
+        error::refuse(
             text,
             Stop {
                 cause: Cause::OutputFull,
                 place: 0,
             },
-        ));
-    };
-    Ok(bytes)
+        )
+    })
 }
 
 // How many bytes the normal text of a text has, written over the front of the output, or why there is none; its tree is stored as `read`
@@ -76,14 +77,13 @@ pub fn normal_text(
 pub fn structurally_eq(left: Tree, right: Tree) -> Result<bool, Refusal>
     ensures { CompareTo left.entry.records.now left.entry.texts.now right.entry.records.now right.entry.texts.now result }
 {
-    let Ok(equal) = left.structurally_eq(right) else {
-        return Err(error::refuse(
+    left.structurally_eq(right).map_err(|_| {
+        error::refuse(
             left.texts,
             Stop {
                 cause: Cause::NotATree,
                 place: 0,
             },
-        ));
-    };
-    Ok(equal)
+        )
+    })
 }

@@ -5,12 +5,17 @@ use mathlib.Core.List.{List, [], ◌∷◌, ◌++◌, append_assoc, append-nil}
 use Prim.Native.Nat.{ℕ, zero, suc, ◌+◌, ◌-◌, ◌≤◌, ◌<◌}
 use native.Mathlib.Omega.{arith}
 use native.Mathlib.Nat.{not-suc-le-zero}
+use mathlib.Core.Bool.{Bool, true, false, not}
+use lib.Dec.{eqb}
+use borrow.Author.Tests.{ne_eqb, eqb-true, eqb-false}
+use Rattle.std.specs.Option.{option_eq}
 use lib.ListN.{length, take, drop, length-drop, length-append}
 use lib.Seq.{drop-drop, drop-append_seam, take_at}
-use Rattle.std.specs.Option.{MatchOption}
+use Rattle.basics.specs.Basics.{head}
+use Rattle.basics.proofs.Tests.{impossible}
 use Rattle.std.proofs.Common.{Option, Some, None}
 use Rattle.characters.specs.Utf8.{first_char, on_char, encode, codes_from, codes, encode_all, width}
-use Rattle.characters.specs.Places.{decode_at, peek_at, past, cut}
+use Rattle.characters.specs.Places.{decode_at, peek_at, first_of, first_at, past, cut}
 use Rattle.characters.specs.Promise.{Next}
 use Rattle.characters.proofs.Encode.{IsScalar, read_back, ascii-wide}
 use Rattle.characters.proofs.Heads.{Stands, stands}
@@ -160,12 +165,61 @@ pub peek_on : (s : List ℕ) (at : ℕ) {c n : ℕ} → decode_at s at ≡ Some 
 unfolding peek_at
 peek_on s at e = rw (codes-on s at e)
 
--- what `map_or` makes of a character
-pub peek-by : (s : List ℕ) (at r : ℕ) (Q : ℕ × ℕ → Type 0) → (ch : Option (ℕ × ℕ)) → decode_at s at ≡ ch → MatchOption ch (r ≡ 0) Q → ((x : ℕ × ℕ) → Q x → r ≡ x.0)
-    → r ≡ peek_at s at
-unfolding peek_at
-peek-by s at r Q None e h g = rw (codes_off s at e) h
-peek-by s at r Q (Some (c, n)) e h g = rw (codes-on s at e) (g (c, n) h)
+module _ (s : List ℕ) (at : ℕ) where
+  pub first-on : {c n : ℕ} → decode_at s at ≡ Some (c, n) → first_at s at ≡ Some c
+  unfolding first_at
+  first-on e = rw (codes-on s at e)
+
+  pub first_off : decode_at s at ≡ None → first_at s at ≡ None
+  unfolding first_at
+  first_off e = rw (codes_off s at e)
+
+  pub first_is : {x : ℕ} → Some x ≡ first_at s at → x ≡ peek_at s at
+  unfolding first_at peek_at
+  first_is {x} = by (codes (drop at s))
+    where
+      by : (cs : List ℕ) → Some x ≡ first_of cs → x ≡ head cs
+      by [] e = impossible (cc)
+      by (c ∷ cs) e = cc
+
+  pub first_none : None ≡ first_at s at → codes (drop at s) ≡ []
+  unfolding first_at
+  first_none = by (codes (drop at s))
+    where
+      by : (cs : List ℕ) → None ≡ first_of cs → cs ≡ []
+      by [] e = refl
+      by (c ∷ cs) e = impossible (cc)
+
+-- whether a character other than 0 is the first, by `==` and by `!=`
+module _ (s : List ℕ) (at : ℕ) {o : Option ℕ} (p : o ≡ first_at s at) {x : ℕ} {b : Bool} where
+  pub first_eq : 1 ≤ x → b ≡ option_eq eqb o (Some x) → b ≡ eqb (peek_at s at) x
+  unfolding first_at peek_at
+  first_eq h e = e ∙ ap (λ (o : Option ℕ). option_eq eqb o (Some x)) p ∙ by (codes (drop at s))
+    where
+      by : (cs : List ℕ) → option_eq eqb (first_of cs) (Some x) ≡ eqb (head cs) x
+      by [] = sym (ne_eqb 0 x (λ e. omega arith))
+      by (c ∷ cs) = refl
+
+  pub eq_yes : 1 ≤ x → b ≡ option_eq eqb o (Some x) → b ≡ true → peek_at s at ≡ x
+  eq_yes h e t = eqb-true (peek_at s at) x (sym (first_eq h e) ∙ t)
+
+  pub eq_no : 1 ≤ x → b ≡ option_eq eqb o (Some x) → b ≡ false → peek_at s at ≡ x → ⊥
+  eq_no h e t = eqb-false (peek_at s at) x (sym (first_eq h e) ∙ t)
+
+module _ (s : List ℕ) (at : ℕ) {o : Option ℕ} (p : o ≡ first_at s at) {x : ℕ} {b : Bool} where
+  pub ne_no : 1 ≤ x → b ≡ not (option_eq eqb o (Some x)) → b ≡ false → peek_at s at ≡ x
+  ne_no h e t = eq_yes s at p h refl (by (option_eq eqb o (Some x)) (sym e ∙ t))
+    where
+      by : (a : Bool) → not a ≡ false → a ≡ true
+      by true e = refl
+      by false e = impossible (cc)
+
+  pub ne_yes : 1 ≤ x → b ≡ not (option_eq eqb o (Some x)) → b ≡ true → peek_at s at ≡ x → ⊥
+  ne_yes h e t = eq_no s at p h refl (by (option_eq eqb o (Some x)) (sym e ∙ t))
+    where
+      by : (a : Bool) → not a ≡ true → a ≡ false
+      by true e = impossible (cc)
+      by false e = refl
 
 pub next-head : (s : List ℕ) (at x : ℕ) → 1 ≤ x → x < 0x80 → peek_at s at ≡ x → Next s at x
 unfolding peek_at

@@ -1,17 +1,18 @@
 -- The length of a character by its first byte, once its second is known to be one that may follow.
 -- Assumes nothing.
 use mathlib.Core.Path.{◌≡◌, refl, sym, ◌∙◌}
-use mathlib.Core.Bool.{true, false, true≢false}
-use Prim.Native.Nat.{ℕ, ◌≤◌, ◌<◌}
+use mathlib.Core.Bool.{true, false, true≢false, ◌&&◌}
+use Prim.Native.Nat.{ℕ, ◌+◌, ◌*◌, ◌%◌, ◌≤◌, ◌<◌}
+use Rattle.std.proofs.Common.{Some, None}
 use native.Mathlib.Decide.{dec_lt}
 use native.Mathlib.Omega.{arith}
 use lib.Dec.{eqb}
 use borrow.Author.Tests.{eqb-true, eqb-false}
 use Rattle.basics.specs.Basics.{within}
 use Rattle.basics.proofs.Tests.{cases, within-true, within_yes}
-use Rattle.characters.specs.Utf8.{lead_len}
+use Rattle.characters.specs.Utf8.{lead_len, char_of}
 use Rattle.characters.specs.Promise.{is_second}
-use Rattle.characters.proofs.Encode.{lead_2, lead-E0, lead_E1, lead-ED, lead_EE, lead-F0, lead_F1, lead-F4}
+use Rattle.characters.proofs.Encode.{lead_1, lead_2, lead-E0, lead_E1, lead-ED, lead_EE, lead-F0, lead_F1, lead-F4}
 use Rattle.characters.proofs.Heads.{Lead, one, two, three-low, three-high, four, none, lead}
 
 -- what a second byte satisfies
@@ -81,14 +82,14 @@ module _ (a b : ℕ) where
   out-of_rows (three-high p q l k) h w = never (w (omega arith) (omega arith)) (λ y. omega arith) (λ y. omega arith) (λ y. omega arith) (λ y. omega arith) l k
   out-of_rows (four p q l k) h w = never (w (omega arith) (omega arith)) (λ y. omega arith) (λ y. omega arith) (λ y. omega arith) (λ y. omega arith) l k
 
-  pub len_0 : 0x80 ≤ a → (0xC2 ≤ a → a < 0xF5 → is_second a b ≡ false) → lead_len a b ≡ 0
+  len_0 : 0x80 ≤ a → (0xC2 ≤ a → a < 0xF5 → is_second a b ≡ false) → lead_len a b ≡ 0
   len_0 h w = out-of_rows (lead a b) h w
 
   module _ (t : is_second a b ≡ true) where
-    pub len_2 : 0xC2 ≤ a → a < 0xE0 → lead_len a b ≡ 2
+    len_2 : 0xC2 ≤ a → a < 0xE0 → lead_len a b ≡ 2
     len_2 h h' = let s = second-true t in lead_2 a b h (omega arith) s.low s.high
 
-    pub len_3 : 0xE0 ≤ a → a < 0xF0 → lead_len a b ≡ 3
+    len_3 : 0xE0 ≤ a → a < 0xF0 → lead_len a b ≡ 3
     len_3 h h' =
         let s = second-true t in
         elim (dec_lt a 0xE1) [
@@ -102,7 +103,7 @@ module _ (a b : ℕ) where
           ]
         ]
 
-    pub len_4 : 0xF0 ≤ a → a < 0xF5 → lead_len a b ≡ 4
+    len_4 : 0xF0 ≤ a → a < 0xF5 → lead_len a b ≡ 4
     len_4 h h' =
         let s = second-true t in
         elim (dec_lt a 0xF1) [
@@ -112,3 +113,37 @@ module _ (a b : ℕ) where
             | no l' ↦ lead-F4 a b (omega arith) (omega arith) s.low (s.F4 (omega arith))
           ]
         ]
+
+-- the character that begins with four bytes, by its row of table 3-7
+module _ (a b c d : ℕ) where
+  pub char_1 : a < 0x80 → char_of (lead_len a b) a b c d ≡ Some (a, 1)
+  unfolding char_of
+  char_1 h = rw (lead_1 a b h)
+
+  pub none_0 : 0x80 ≤ a → (0xC2 ≤ a → a < 0xF5 → is_second a b ≡ false) → char_of (lead_len a b) a b c d ≡ None
+  unfolding char_of
+  none_0 h w = rw (len_0 a b h w)
+
+  module _ (t : is_second a b ≡ true) where
+    pub char_2 : 0xC2 ≤ a → a < 0xE0 → char_of (lead_len a b) a b c d ≡ Some (a % 32 * 64 + b % 64, 2)
+    unfolding char_of
+    char_2 h h' = rw (len_2 a b t h h')
+
+    module _ (h : 0xE0 ≤ a) (h' : a < 0xF0) where
+      pub char_3 : within 0x80 0xBF c ≡ true → char_of (lead_len a b) a b c d ≡ Some (a % 16 * 4096 + b % 64 * 64 + c % 64, 3)
+      unfolding char_of
+      char_3 w = rw (len_3 a b t h h', w)
+
+      pub none_3 : within 0x80 0xBF c ≡ false → char_of (lead_len a b) a b c d ≡ None
+      unfolding char_of
+      none_3 w = rw (len_3 a b t h h', w)
+
+    module _ (h : 0xF0 ≤ a) (h' : a < 0xF5) where
+      pub char_4 : within 0x80 0xBF c ≡ true → within 0x80 0xBF d ≡ true
+          → char_of (lead_len a b) a b c d ≡ Some (a % 8 * 262144 + b % 64 * 4096 + c % 64 * 64 + d % 64, 4)
+      unfolding char_of
+      char_4 w w' = rw (len_4 a b t h h', w, w')
+
+      pub none_4 : (within 0x80 0xBF c && within 0x80 0xBF d) ≡ false → char_of (lead_len a b) a b c d ≡ None
+      unfolding char_of
+      none_4 w = rw (len_4 a b t h h', w)

@@ -4,8 +4,9 @@ mod Leads
 pub mod Laws
 pub mod Chars
 pub mod Runs
-mod Skips
 mod Tables
 mod Ascii
 pub mod Written
 pub mod Whole
+mod Checked
+pub mod Spelled

@@ -1,6 +1,6 @@
 -- The classes of characters that the lexer asks for.
 -- Assumes nothing.
-use Rattle.std.specs.Prelude.{ℕ, Bool, ◌&&◌, ◌||◌, not, List, [], ◌∷◌, eqb, ltb}
+use Rattle.std.specs.Prelude.{ℕ, Bool, ◌&&◌, ◌||◌, not, List, [], ◌∷◌, eqb}
 use Rattle.basics.specs.Basics.{letters, is, among, within}
 use Rattle.characters.specs.Spans.{Span, ◌upto◌, in_spans}
 use Rattle.characters.specs.Alphabetic.{is_alphabetic}
@@ -26,10 +26,6 @@ is_line_terminator c = among (0x0A ∷ 0x0D ∷ 0x2028 ∷ 0x2029 ∷ []) c
 -- the marks that are a token by themselves
 unfoldable pub is_punctuation : ℕ → Bool
 is_punctuation c = among (letters "[]()!~+*?{}<>.,|:$=") c
-
--- a code is ASCII
-unfoldable pub is_ascii : ℕ → Bool
-is_ascii c = ltb c 0x80
 
 -- a decimal digit
 unfoldable pub is_ascii_digit : ℕ → Bool

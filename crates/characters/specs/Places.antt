@@ -1,6 +1,6 @@
 -- Places in the bytes of a text, and the characters that stand there.
 -- Assumes nothing.
-use Rattle.std.specs.Prelude.{Option, Bool, true, false, List, [], ◌∷◌, ℕ, zero, suc, ◌+◌, ◌-◌, take, drop}
+use Rattle.std.specs.Prelude.{Option, Some, None, Bool, true, false, List, [], ◌∷◌, ℕ, zero, suc, ◌+◌, ◌-◌, take, drop}
 use Rattle.basics.specs.Basics.{head}
 use Rattle.characters.specs.Utf8.{first_char, codes, width}
 
@@ -15,6 +15,15 @@ chars_at text at = codes (drop at text)
 -- the first of them, or 0
 unfoldable pub peek_at : List ℕ → ℕ → ℕ
 peek_at text at = head (chars_at text at)
+
+-- the first of some characters, if there is one
+abbrev pub first_of : List ℕ → Option ℕ
+first_of [] = None
+first_of (c ∷ cs) = Some c
+
+-- the first character from a place on, if there is one
+unfoldable pub first_at : List ℕ → ℕ → Option ℕ
+first_at text at = first_of (chars_at text at)
 
 -- the part of a text from a place to another, `&text[a..e]`
 abbrev pub cut : List ℕ → ℕ → ℕ → List ℕ

@@ -1,15 +1,19 @@
 // Characters: UTF-8, by Unicode's table 3-7, and the classes that the lexer asks for.
+//
+// `decode`, `decode_wide`, `peek`, `scan_word` and `put` take a whole text and a place in it, not the rest from that place on: contracts and
+// promises speak of places in the whole text, from which the lexer goes on. But for `decode_wide`, which requires a place within the text, a
+// place may lie past the end, where no rest can be cut.
 #![tactic(auto)]
 
 mod table;
 
-ghost use Rattle.std.specs.Prelude.{◌≡◌, List, ◌+◌, ◌≤◌, ◌<◌, T, length, get_or, take, drop};
-ghost use Rattle.basics.specs.Basics.{within, every};
+ghost use Rattle.std.specs.Prelude.{◌≡◌, List, ◌<◌, T, length, get_or};
+ghost use Rattle.basics.specs.Basics.{within};
 ghost use Rattle.characters.specs.Utf8.{lead_len, char_of, check, is_scalar};
-ghost use Rattle.characters.specs.Places.{decode_at, peek_at, run};
+ghost use Rattle.characters.specs.Places.{decode_at, first_at};
 ghost use Rattle.characters.specs.Spans.{Span, in_spans};
 ghost use Rattle.characters.specs.Alphabetic.{is_alphabetic};
-ghost use Rattle.characters.specs.Classes.{is_ascii, is_ascii_digit, is_ascii_hexdigit, is_whitespace, is_ecmascript_whitespace, is_line_terminator, is_punctuation, is_word};
+ghost use Rattle.characters.specs.Classes.{is_ascii_digit, is_ascii_hexdigit, is_whitespace, is_ecmascript_whitespace, is_line_terminator, is_punctuation, is_word};
 ghost use Rattle.characters.specs.Promise.{is_second, run_end, written, scalar_bytes, ascending, flat, Split, is_ascii_letter, is_ascii_space, is_ascii_word};
 ghost use Rattle.error.specs.declared.Cause.TheVariants.{NotUtf8};
 
@@ -33,13 +37,15 @@ impl From<IllFormed> for Stop {
     }
 }
 
-// A byte as a number, or 0 past the end: 0 continues no character.
+// A byte as a number, or 0 past the end: 0 continues no character, so that an `Option` would be taken apart to the same 0. k is an index.
 fn byte_at(text: &[u8], k: usize) -> u32
     ensures { result ≡ get_or text.now k 0 }
 {
     text.get(k).map_or(0, |&b| b as u32)
 }
 
+// Codes are numbers here and need not be characters, so `char::is_ascii_digit` and the like do not take them: the tests of codes below stand
+// on this one. It is `within` of the definitions; `(lo..=hi).contains(&x)` makes the same two comparisons by a reference: no plainer.
 fn is_within(lo: u32, hi: u32, x: u32) -> bool
     ensures { result ≡ within lo hi x }
 {
@@ -60,37 +66,27 @@ fn is_second(a: u32, b: u32) -> bool
     }
 }
 
-// How many bytes the character takes that starts with a and b; 0 where none does.
-#[tactic(auto, using(crate::proofs::Encode::lead_1, crate::proofs::Leads::len_0, crate::proofs::Leads::len_2, crate::proofs::Leads::len_3, crate::proofs::Leads::len_4))]
-fn lead_len(a: u32, b: u32) -> usize
-    ensures { result ≡ lead_len a b }
+// The character that begins with these bytes: its code by table 3-6, and how many of the bytes it takes.
+#[tactic(auto, using(crate::proofs::Leads::none_0, crate::proofs::Leads::char_1, crate::proofs::Leads::char_2, crate::proofs::Leads::char_3, crate::proofs::Leads::none_3, crate::proofs::Leads::char_4, crate::proofs::Leads::none_4))]
+fn of_bytes(a: u32, b: u32, c: u32, d: u32) -> Option<(u32, usize)>
+    ensures { result ≡ char_of (lead_len a b) a b c d }
 {
     match a {
-        0..=0x7F => 1,
-        0xC2..=0xDF if is_second(a, b) => 2,
-        0xE0..=0xEF if is_second(a, b) => 3,
-        0xF0..=0xF4 if is_second(a, b) => 4,
-        _ => 0,
-    }
-}
-
-// The character that takes n bytes and has these.
-#[tactic(auto, using(std::proofs::lemmas::Bool::Decides::nat_tests), unfolding(crate::specs::Utf8::char_of))]
-fn of_len(n: usize, a: u32, b: u32, c: u32, d: u32) -> Option<(u32, usize)>
-    ensures { result ≡ char_of n a b c d }
-{
-    match n {
-        1 => Some((a, 1)),
-        2 => Some((a % 32 * 64 + b % 64, 2)),
-        3 if is_within(0x80, 0xBF, c) => Some((a % 16 * 4096 + b % 64 * 64 + c % 64, 3)),
-        4 if is_within(0x80, 0xBF, c) && is_within(0x80, 0xBF, d) => {
+        0..=0x7F => Some((a, 1)),
+        0xC2..=0xDF if is_second(a, b) => Some((a % 32 * 64 + b % 64, 2)),
+        0xE0..=0xEF if is_second(a, b) && is_within(0x80, 0xBF, c) => {
+            Some((a % 16 * 4096 + b % 64 * 64 + c % 64, 3))
+        }
+        0xF0..=0xF4 if is_second(a, b) && is_within(0x80, 0xBF, c) && is_within(0x80, 0xBF, d) => {
             Some((a % 8 * 262144 + b % 64 * 4096 + c % 64 * 64 + d % 64, 4))
         }
         _ => None,
     }
 }
 
-// The character at a place within the text, by all four bytes.
+// The character at a place within the text, by all four bytes: its code by table 3-6, and how many bytes it takes. It stays out of line:
+// inlined, it makes `scan_word` take 1.7 times as long on ASCII.
+#[inline(never)]
 fn decode_wide(text: &[u8], at: usize) -> Option<(u32, usize)>
     requires { at < length text.now }
     ensures { result ≡ decode_at text.now at }
@@ -100,7 +96,7 @@ fn decode_wide(text: &[u8], at: usize) -> Option<(u32, usize)>
     let b = byte_at(rest, 1);
     let c = byte_at(rest, 2);
     let d = byte_at(rest, 3);
-    of_len(lead_len(a, b), a, b, c, d)
+    of_bytes(a, b, c, d)
 }
 
 // The character at a place: its code and how many bytes it takes. An ASCII byte is one by itself; the rest stands apart, so that callers
@@ -115,55 +111,20 @@ pub fn decode(text: &[u8], at: usize) -> Option<(u32, usize)>
     decode_wide(text, at)
 }
 
-// The code of the character at a place, or 0.
-pub fn peek(text: &[u8], at: usize) -> u32
-    ensures { result ≡ peek_at text.now at }
+// The code of the character at a place.
+pub fn peek(text: &[u8], at: usize) -> Option<u32>
+    ensures { result ≡ first_at text.now at }
 {
-    decode(text, at).map_or(0, |(c, _)| c)
-}
-
-// Whether some bytes are all ASCII. The sum has no branch, so that many bytes are taken at a time.
-fn is_ascii_block(block: &[u8]) -> bool
-    requires { length block.now < 256 }
-    ensures { result ≡ every is_ascii block.now }
-{
-    let mut high: u8 = 0;
-    for b in block {
-        high += b / 128;
-    }
-    high == 0
-}
-
-// The place after the ASCII bytes from a place on.
-fn skip_ascii(text: &[u8], from: usize) -> usize
-    requires { from ≤ length text.now }
-    ensures { result ≡ from + run is_ascii (drop from text.now) }
-{
-    let mut at = from;
-    while 128 <= text.len() - at && is_ascii_block(&text[at..at + 128]) {
-        at += 128;
-    }
-    while at < text.len() && text[at] < 0x80 {
-        at += 1;
-    }
-    at
+    decode(text, at).map(|(c, _)| c)
 }
 
 // Whether a text is UTF-8.
 pub fn check(text: &[u8]) -> Result<(), IllFormed>
     ensures { result ≡ check text.now }
 {
-    let mut at = 0;
-    while at < text.len() {
-        if text[at] < 0x80 {
-            at = skip_ascii(text, at);
-        } else {
-            let Some((_, n)) = decode_wide(text, at) else {
-                return Err(IllFormed { at });
-            };
-            at += n;
-        }
-    }
+    str::from_utf8(text).map_err(|e| IllFormed {
+        at: e.valid_up_to(),
+    })?;
     Ok(())
 }
 
@@ -172,7 +133,7 @@ pub fn check(text: &[u8]) -> Result<(), IllFormed>
 pub fn is_scalar(code: u32) -> bool
     ensures { result ≡ is_scalar code }
 {
-    matches!(code, 0..=0xD7FF | 0xE000..=0x10FFFF)
+    char::from_u32(code).is_some()
 }
 
 // Writes bytes to the start of a part, where they fit, and counts them in any case.
@@ -185,7 +146,8 @@ fn lay<const N: usize>(out: &mut [u8], bytes: [u8; N]) -> usize
     N
 }
 
-// Writes the bytes of a scalar to the start of a part, where they fit, and counts them in any case. A code that is no scalar has none.
+// Writes the bytes of a scalar to the start of a part, where they fit, and counts them in any case. A code that is no scalar has none. By
+// hand: `char::encode_utf8` takes a `char`, and panics where the part is too short, while this counts on, to say how much room is needed.
 pub fn encode_utf8(out: &mut [u8], code: u32) -> usize
     ensures { (result ≡ length (scalar_bytes code)) × (out.new ≡ written out.old 0 (scalar_bytes code)) }
 {

@@ -1,4 +1,5 @@
-// The functions of characters and error under plain names, for programs in Rust or C to link: compare/characters does.
+// The functions of characters and error under plain names, for programs in Rust or C to link: compare/characters does. Parameters are those of
+// the C interface: a text and a place in it are two of them.
 #![tactic(auto)]
 
 ghost use Rattle.std.specs.Prelude.{◌≡◌, length};

@@ -1,14 +1,14 @@
 -- Blocks of references and of precedences: what their definitions give, and what is then stored.
 -- Assumes nothing.
-use Prim.Native.Nat.{ℕ, ◌+◌, ◌<◌, ◌^◌}
+use Prim.Native.Nat.{ℕ, ◌+◌, ◌≤◌, ◌<◌, ◌^◌}
 use Prim.Native.String.{String as Quoted}
 use native.Mathlib.Omega.{arith}
-use mathlib.Core.Path.{◌≡◌, refl, ◌∙◌}
+use mathlib.Core.Path.{◌≡◌, refl, ap, ◌∙◌}
 use mathlib.Core.Bool.{true, false}
-use mathlib.Core.List.{List, [], ◌∷◌, ◌++◌, append-nil}
+use mathlib.Core.List.{List, [], ◌∷◌, ◌++◌, append-nil, map}
 use mathlib.Core.Option as M
 use mathlib.Core.Option.{none, some}
-use Rattle.std.specs.Prelude.{Some, Ok, Err}
+use Rattle.std.specs.Prelude.{Some, Result, Ok, Err}
 use lib.ListN.{length}
 use Rattle.basics.specs.Basics.{letters}
 use Rattle.error.specs.Causes.{bad_precedence, bad_conflict}
@@ -19,14 +19,19 @@ use Rattle.characters.specs.Places.{cut}
 use Rattle.characters.specs.Utf8.{encode_all}
 use Rattle.lexer.specs.Promise.{part_of, is_plain}
 use Rattle.lexer.specs.Tokens.{Tokens}
-use Rattle.tree.specs.Records.{Branch, nodes}
+use Rattle.tree.specs.Records.{Branch, Node, nodes}
 use Rattle.tree.specs.Stored.{each, full, plain, reference_branch, token_prec_branch, token_conflict_branch, prec_item_branch, prec_value, declaration_branch}
 use Rattle.tree.specs.Syntax.{Identifier, TokenReference, TokenPrecDeclaration, TokenConflictDeclaration, PrecKind, PrecItem, PrecDeclaration}
 use Rattle.notation.specs.Parser.{Answer, read, refused, Parser, and_then, ◌>>=◌, pure, refuse, choose, here, kind, next, eat, eat_if, eat_at, expect, until, comma_or_not, parse_identifier}
 use Rattle.notation.specs.Declarations.{parse_token_reference, parse_token_precedence, parse_token_conflict, parse_prec_kind, parse_prec_item, parse_precedence}
 use Rattle.tokens.specs.Promise.{stream, start_in, end_in, LiesIn, EatsAt, Expects, Identifies}
-use Rattle.parser.specs.Storing.{Lent, Stores, node, flat, nodes_of}
-use Rattle.parser.specs.Steps.{Onward, Ready, Gives, Lists, Separates}
+use Rattle.std.specs.Borrow.{Bor, MutBor}
+use Rattle.parser.specs.Storing.{Lent, lent_of, Kept, Stores, node, flat, nodes_of}
+use Rattle.parser.specs.declared.store.Store.{Store}
+use Rattle.parser.specs.Steps.{Onward, Ready, Parses, Gives, Lists, ParsesList, Separates}
+use Rattle.parser.specs.Lists.{stored_all, as_read}
+use Rattle.parser.proofs.ByNodes.{all-stored, flat_map, length_map, each as each_by}
+use Rattle.declarations.specs.Blocks.{Few, block_of, block_nodes}
 use Rattle.parser.specs.Shapes.{IsToken}
 use Rattle.lexer.specs.declared.Token.{Token}
 use Rattle.lexer.specs.declared.Token.TheVariants.{Of, Eof}
@@ -38,71 +43,131 @@ use Rattle.declarations.specs.Promise.{conflict_pair, PrecGot, precedence_branch
 
 -- ------------------------------------------------------------------ a keyword, and a list in braces
 
--- what is then made of the list
-abbrev block_by : {A B : Type 0} → Parser ℕ (List A) → (List A → Parser ℕ B) → Parser ℕ B
-block_by list f = next >>= λ _. (expect "{" >>= λ _. list) >>= f
-
-module _ {A B : Type 0} (list : Parser ℕ (List A)) (f : List A → Parser ℕ B) (ts : Tokens ℕ) where
-  block_halt : {c p : ℕ} → next ts ≡ refused c p → block_by list f ts ≡ refused c p
-  unfolding ◌>>=◌ and_then
+module _ {A : Type 0} (list : Parser ℕ (List A)) (ts : Tokens ℕ) where
+  block_halt : {c p : ℕ} → next ts ≡ refused c p → block_of list ts ≡ refused c p
+  unfolding block_of ◌>>=◌ and_then
   block_halt e = rw e
 
   module _ {us : Tokens ℕ} (e : next ts ≡ read tt us) where
-    block_unopened : {c p : ℕ} → expect "{" us ≡ refused c p → block_by list f ts ≡ refused c p
-    unfolding ◌>>=◌ and_then
+    block_unopened : {c p : ℕ} → expect "{" us ≡ refused c p → block_of list ts ≡ refused c p
+    unfolding block_of ◌>>=◌ and_then
     block_unopened g = rw (e, and_then, g)
 
-    module _ {vs : Tokens ℕ} (g : expect "{" us ≡ read tt vs) where
-      block_refused : {c p : ℕ} → list vs ≡ refused c p → block_by list f ts ≡ refused c p
-      unfolding ◌>>=◌ and_then
-      block_refused h = rw (e, and_then, g, h)
+    block_opened : {vs : Tokens ℕ} → expect "{" us ≡ read tt vs → block_of list ts ≡ list vs
+    unfolding block_of ◌>>=◌ and_then
+    block_opened g = rw (e, and_then, g)
 
-      block_read : {xs : List A} {ws : Tokens ℕ} → list vs ≡ read xs ws → block_by list f ts ≡ f xs ws
-      unfolding ◌>>=◌ and_then
-      block_read h = rw (e, and_then, g, h)
-
--- what the definition D answers at the token t is such a block
-pub record Blocked {A B : Type 0} (D : Answer ℕ B) (list : Parser ℕ (List A)) (f : List A → Parser ℕ B) (s : List ℕ) (t : Token) : Type 0 where
-  pub is : D ≡ block_by list f (stream s t)
-
-module _ {A B : Type 0} {D : Answer ℕ B} {list : Parser ℕ (List A)} {f : List A → Parser ℕ B} {s : List ℕ} {t : Token} (b : Blocked D list f s t) where
-  pub next-refused : {c p : ℕ} → next (stream s t) ≡ refused c p → D ≡ refused c p
-  next-refused k = b.is ∙ block_halt list f (stream s t) k
+module _ (list : Parser ℕ (List (List Node))) (s : List ℕ) (t : Token) where
+  pub next-refused : {c p : ℕ} → next (stream s t) ≡ refused c p → block_of list (stream s t) ≡ refused c p
+  next-refused k = block_halt list (stream s t) k
 
   module _ {u : Token} (h : (next (stream s t) ≡ read tt (stream s u)) × LiesIn s (end_in t) u) where
-    pub brace-refused : {e : Stop} → Expects s u 0x7B (Err e) → D ≡ refused (cause_number e.cause) e.place
-    brace-refused o = b.is ∙ block_unopened list f (stream s t) h.0 (o.expects "{" refl)
+    pub brace-refused : {e : Stop} → Expects s u 0x7B (Err e) → block_of list (stream s t) ≡ refused (cause_number e.cause) e.place
+    brace-refused o = block_unopened list (stream s t) h.0 (o.expects "{" refl)
 
     module _ {v : Token} (o : Expects s u 0x7B (Ok v)) where
-      brace-at : expect "{" (stream s u) ≡ read tt (stream s v)
-      brace-at = o.expects "{" refl
+      block-is : block_of list (stream s t) ≡ list (stream s v)
+      block-is = block_opened list (stream s t) h.0 (o.expects "{" refl)
 
-      pub list_halt : {c p : ℕ} → list (stream s v) ≡ refused c p → D ≡ refused c p
-      list_halt g = b.is ∙ block_refused list f (stream s t) h.0 brace-at g
+      pub list_halt : {c p : ℕ} → list (stream s v) ≡ refused c p → block_of list (stream s t) ≡ refused c p
+      list_halt g = block-is ∙ g
 
       pub list_onward : IsToken t → LiesIn s 0 t → Onward s t v 2
       list_onward i l = let w = next-onward s t i l h in onward_then w (expect-onward s "{" u (omega arith) w.lies o)
 
       -- what storing its node asks
-      pub block_asks : {i count p : ℕ} {w : Token} {l m : Lent} (y : Ready s t l) → IsToken t → (g : A → Branch)
-          → Lists (list (stream s v)) (nodes_of g) s v i l w m count → p ≡ start_in t → (m.n + 7 < 2 ^ 64) × (p < 2 ^ 32) × (count < 2 ^ 32)
-      block_asks y k g ls j =
-          let c = lists-small g ls y.small in
-          put-plain_asks y (ready_on (ready_step y (list_onward k y.lies)) ls.onward ls.lays) j (omega arith)
+      pub block_asks : {i count p : ℕ} {w : Token} {l m : Lent} (y : Ready s t l) → IsToken t → Lists (list (stream s v)) as_read s v i l w m count → count ≤ 0x400000 → p ≡ start_in t
+          → (m.n + 7 < 2 ^ 64) × (p < 2 ^ 32) × (count < 2 ^ 32)
+      block_asks y k ls c j = put-plain_asks y (ready_on (ready_step y (list_onward k y.lies)) ls.onward ls.lays) j (omega arith)
 
-      pub block-given : IsToken t → LiesIn s 0 t → (g : A → Branch) (d : B → Branch) (k : ℕ) {w : Token} {y count p : ℕ} {a m n : Lent}
-          → (ls : Lists (list (stream s v)) (nodes_of g) s v y a w m count) (value : B) → f ls.items (stream s w) ≡ read value (stream s w)
-          → nodes (d value) ≡ flat (nodes_of g) ls.items ++ node k (start_in t) [] 0 0 (length ls.items) ∷ []
-          → p ≡ start_in t → Stores (node k p [] 0 0 count ∷ []) m n → Gives D (nodes_of d) s t a w n
-      block-given i l g d k ls value made same j st =
+      pub block-given : IsToken t → LiesIn s 0 t → (k : ℕ) {w : Token} {y count p : ℕ} {a m n : Lent} → Lists (list (stream s v)) as_read s v y a w m count → p ≡ start_in t
+          → Stores (node k p [] 0 0 count ∷ []) m n → Gives (block_of list (stream s t)) (block_nodes k (start_in t)) s t a w n
+      unfolding block_nodes
+      block-given i l k ls j st =
           let o₂ = list_onward i l in
           let o₁ = o₂.ahead in
           record {
-            value = value;
-            gives = b.is ∙ block_read list f (stream s t) h.0 brace-at ls.gives ∙ made;
+            value = ls.items;
+            gives = block-is ∙ ls.gives;
             onward = onward-least 1 (onward_then o₂ ls.onward) (omega arith);
-            lays = rw (same, ls.counted, ← j) (lays_parent ls.lays st (onward-least 1 o₂ (omega arith)) (omega arith) (omega arith));
+            lays = rw (ls.counted, ← j) (lays_parent ls.lays st (onward-least 1 o₂ (omega arith)) (omega arith) (omega arith));
           }
+
+-- what is made of the list
+abbrev pub block_by : {A B : Type 0} → Parser ℕ (List A) → (List A → Parser ℕ B) → Parser ℕ B
+block_by list f = next >>= λ _. (expect "{" >>= λ _. list) >>= f
+
+-- what the definition D answers at the token t is such a block
+pub record Blocked {A B : Type 0} (D : Answer ℕ B) (list : Parser ℕ (List A)) (f : List A → Parser ℕ B) (s : List ℕ) (t : Token) : Type 0 where
+  pub is : D ≡ block_by list f (stream s t)
+
+-- what is made of a list, and its nodes, of a kind and a start behind those of the items
+pub record Made {A B : Type 0} (f : List A → Parser ℕ B) (g : A → Branch) (d : B → Branch) (k p : ℕ) (xs : List A) : Type 0 where
+  pub value : B
+  pub made : (ts : Tokens ℕ) → f xs ts ≡ read value ts
+  pub same : nodes (d value) ≡ flat (nodes_of g) xs ++ node k p [] 0 0 (length xs) ∷ []
+
+module _ {A B : Type 0} (g : A → Branch) (d : B → Branch) (k : ℕ) (list : Parser ℕ (List A)) (f : List A → Parser ℕ B) (s : List ℕ) (t : Token) where
+  by-of : (ts : Tokens ℕ) → block_by list f ts ≡ and_then (block_of list ts) f
+  unfolding block_of ◌>>=◌ and_then
+  by-of ts = go (next ts)
+    where
+      go : (x : Answer ℕ (Unit {0})) → and_then x (λ _. (expect "{" >>= λ _. list) >>= f) ≡ and_then (and_then x (λ _. expect "{" >>= λ _. list)) f
+      go (read y us) = refl
+      go (refused c p) = refl
+
+  of-stored : (ts : Tokens ℕ) → block_of (stored_all (nodes_of g) list) ts ≡ each_by (nodes_of g) (block_of list ts)
+  unfolding block_of stored_all ◌>>=◌ and_then
+  of-stored ts = go (next ts)
+    where
+      opened : (x : Answer ℕ (Unit {0})) → and_then x (λ _. list >>= λ xs. pure (map (nodes_of g) xs)) ≡ each_by (nodes_of g) (and_then x (λ _. list))
+      opened (read y us) = refl
+      opened (refused c p) = refl
+
+      go : (x : Answer ℕ (Unit {0})) → and_then x (λ _. expect "{" >>= λ _. stored_all (nodes_of g) list) ≡ each_by (nodes_of g) (and_then x (λ _. expect "{" >>= λ _. list))
+      go (read y us) = opened (expect "{" us)
+      go (refused c p) = refl
+
+  nodes-stored : (p : ℕ) (xs : List A) → block_nodes k p (map (nodes_of g) xs) ≡ flat (nodes_of g) xs ++ node k p [] 0 0 (length xs) ∷ []
+  unfolding block_nodes
+  nodes-stored p xs = rw (flat_map (nodes_of g) xs, length_map (nodes_of g) xs)
+
+  -- from a block of nodes to what the definition makes of the list
+  pub block_back : {D : Answer ℕ B} (a b : Lent) (r : Result Token Stop) → Blocked D list f s t → ((xs : List A) (us : Tokens ℕ) → block_of list (stream s t) ≡ read xs us → Made f g d k (start_in t) xs)
+      → Parses (block_of (stored_all (nodes_of g) list) (stream s t)) (block_nodes k (start_in t)) s t a b r → Parses D (nodes_of d) s t a b r
+  unfolding and_then pure
+  block_back {D} a b r i makes h = go (block_of list (stream s t)) refl r (rw (of-stored (stream s t)) at h)
+    where
+      go : (x : Answer ℕ (List A)) → block_of list (stream s t) ≡ x → (r : Result Token Stop) → Parses (each_by (nodes_of g) x) (block_nodes k (start_in t)) s t a b r → Parses D (nodes_of d) s t a b r
+      go (read xs us) e (Ok u) h =
+          let m = makes xs us e in
+          let q : map (nodes_of g) xs ≡ h.value = (let w = h.gives in cc) in
+          let z : us ≡ stream s u = (let w = h.gives in cc) in
+          let y : and_then (block_of list (stream s t)) f ≡ read m.value us = rw (e, and_then) (m.made us) in
+          record {
+            value = m.value;
+            gives = i.is ∙ by-of (stream s t) ∙ y ∙ ap (λ (w : Tokens ℕ). read m.value w) z;
+            onward = h.onward;
+            lays = rw (m.same, ← nodes-stored (start_in t) xs, q) h.lays;
+          }
+      go (refused c p) e (Ok u) h = absurd (let w = h.gives in cc)
+      go (read xs us) e (Err z) h = absurd (cc)
+      go (refused c p) e (Err z) h = i.is ∙ by-of (stream s t) ∙ rw e (cc)
+
+-- the count of a list is small
+pub few-items : {A : Type 0} (g : A → Branch) (D : Answer ℕ (List A)) (s : List ℕ) (t : Token) (i : ℕ) (a b : Lent) (r : Result (Token × ℕ) Stop) → length s ≤ 0x200000
+    → ParsesList D (nodes_of g) s t i a b r → Few r
+few-items g D s t i a b (Ok (u, count)) h l = lists-small g l h
+few-items g D s t i a b (Err e) h l = tt
+
+-- what a call says of the list p, at a text that is this one
+pub few-stored : {A : Type 0} (g : A → Branch) (i : ℕ) (p : Parser ℕ (List A)) (s : List ℕ) (b : Bor (List ℕ)) (t : Token) (m n : MutBor Store) (r : Result (Token × ℕ) Stop)
+    → b.now ≡ s → Ready s t (lent_of m.now) → Kept m.now n.now → ParsesList (p (stream b.now t)) (nodes_of g) b.now t i (lent_of m.now) (lent_of n.now) r
+    → Kept m.now n.now × ParsesList (stored_all (nodes_of g) p (stream s t)) as_read s t 0 (lent_of m.now) (lent_of n.now) r × Few r
+few-stored g i p s b t m n r e y k h =
+    let f = few-items g (p (stream s t)) s t i (lent_of m.now) (lent_of n.now) r y.small (rw e at h) in
+    let x = all-stored (nodes_of g) i p s b t m n r e k h in
+    (x.0, x.1, f)
 
 -- ------------------------------------------------------------------ token precedences, and precedences
 
@@ -127,17 +192,14 @@ module _ (s : List ℕ) (t : Token) where
   unfolding parse_precedence here ◌>>=◌ and_then
   precedence-block = record { is = rw (parse_precedence, start-of s t) }
 
-pub made : {A : Type 0} (x : A) (ts : Tokens ℕ) → pure x ts ≡ read x ts
-unfolding pure
-made x ts = refl
+module _ (p : ℕ) where
+  pub token-prec-made : (rs : List (TokenReference ℕ)) → Made (λ xs. pure (token_prec_by p xs)) reference_branch token_prec_branch 9 p rs
+  unfolding encode_all pure
+  token-prec-made rs = record { value = token_prec_by p rs; made = λ ts. refl; same = nodes-over reference_branch (plain 9 p) rs }
 
-pub token_prec_nodes : (p : ℕ) (rs : List (TokenReference ℕ)) → nodes (token_prec_branch (token_prec_by p rs)) ≡ flat (nodes_of reference_branch) rs ++ node 9 p [] 0 0 (length rs) ∷ []
-unfolding encode_all
-token_prec_nodes p rs = nodes-over reference_branch (plain 9 p) rs
-
-pub prec_nodes : (p : ℕ) (is : List (PrecItem ℕ)) → nodes (precedence_branch (prec_by p is)) ≡ flat (nodes_of prec_item_branch) is ++ node 20 p [] 0 0 (length is) ∷ []
-unfolding encode_all declaration_branch
-prec_nodes p is = nodes-over prec_item_branch (plain 20 p) is
+  pub prec-made : (is : List (PrecItem ℕ)) → Made (λ xs. pure (prec_by p xs)) prec_item_branch precedence_branch 20 p is
+  unfolding encode_all declaration_branch pure
+  prec-made is = record { value = prec_by p is; made = λ ts. refl; same = nodes-over prec_item_branch (plain 20 p) is }
 
 -- ------------------------------------------------------------------ conflicts
 
@@ -228,12 +290,40 @@ unfolding and_then ◌>>=◌
 two-first (read a us) = two-parted a (comma_or_not us)
 two-first (refused c q) = tt
 
-pub pair_two : (ts : Tokens ℕ) {us : Tokens ℕ} {xs : List Reference} → conflict_pair ts ≡ read xs us → Two xs
-unfolding conflict_pair ◌>>=◌
-pair_two ts e = rw e at two
+-- behind a keyword and a brace too
+block_two : (ts : Tokens ℕ) {us : Tokens ℕ} {xs : List Reference} → block_of conflict_pair ts ≡ read xs us → Two xs
+unfolding block_of conflict_pair ◌>>=◌ and_then
+block_two ts e = rw e at two
   where
-    two : TwoIn (conflict_pair ts)
-    two = two-first (reference ts)
+    opened : (x : Answer ℕ (Unit {0})) → TwoIn (and_then x (λ _. conflict_pair))
+    opened (read y us) = two-first (reference us)
+    opened (refused c p) = tt
+
+    begin : (x : Answer ℕ (Unit {0})) → TwoIn (and_then x (λ _. expect "{" >>= λ _. conflict_pair))
+    begin (read y us) = opened (expect "{" us)
+    begin (refused c p) = tt
+
+    two : TwoIn (block_of conflict_pair ts)
+    two = begin (next ts)
+
+conflict-nodes : (p : ℕ) (a b : Reference) {xs : List Reference} → xs ≡ a ∷ b ∷ []
+    → nodes (token_conflict_branch (conflict_by p a b)) ≡ flat (nodes_of reference_branch) xs ++ node 10 p [] 0 0 (length xs) ∷ []
+unfolding encode_all each
+conflict-nodes p a b e = rw e (nodes-over reference_branch (plain 10 p) (a ∷ b ∷ []))
+
+conflict-pair : (p : ℕ) (a b : Reference) {xs : List Reference} (ts : Tokens ℕ) → xs ≡ a ∷ b ∷ [] → pair_by p xs ts ≡ read (conflict_by p a b) ts
+unfolding pure
+conflict-pair p a b ts e = rw e
+
+pub conflict-made : (p : ℕ) (xs : List Reference) (ts us : Tokens ℕ) → block_of conflict_pair ts ≡ read xs us → Made (pair_by p) reference_branch token_conflict_branch 10 p xs
+unfolding pure
+conflict-made p xs ts us e =
+    let two = block_two ts e in
+    record {
+      value = conflict_by p two.left two.right;
+      made = λ ws. conflict-pair p two.left two.right ws two.are;
+      same = conflict-nodes p two.left two.right two.are;
+    }
 
 -- ------------------------------------------------------------------ two references
 
@@ -280,15 +370,6 @@ module _ (s : List ℕ) {t u v : Token} {a b : Lent} (f : Gives (reference (stre
         lays = rw (flat-more (nodes_of reference_branch) f.value (g.value ∷ []), flat-more (nodes_of reference_branch) g.value [], flat-none (nodes_of reference_branch), append-nil)
             (lays-then f.lays (lays-between 0 g.lays (omega arith) (omega arith) (omega arith)));
       }
-
-pub conflict-nodes : (p : ℕ) (a b : Reference) {xs : List Reference} → xs ≡ a ∷ b ∷ []
-    → nodes (token_conflict_branch (conflict_by p a b)) ≡ flat (nodes_of reference_branch) xs ++ node 10 p [] 0 0 (length xs) ∷ []
-unfolding encode_all each
-conflict-nodes p a b e = rw e (nodes-over reference_branch (plain 10 p) (a ∷ b ∷ []))
-
-pub conflict-made : (p : ℕ) (a b : Reference) {xs : List Reference} (ts : Tokens ℕ) → xs ≡ a ∷ b ∷ [] → pair_by p xs ts ≡ read (conflict_by p a b) ts
-unfolding pure
-conflict-made p a b ts e = rw e
 
 -- ------------------------------------------------------------------ `@` and a word
 

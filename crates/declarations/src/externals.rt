@@ -1,4 +1,7 @@
 // Declarations that name a source: contexts, prop sources, external props.
+// Text, token and store are three parameters: the token differs at each call, so a struct of the three would be made anew for each, and
+// `Ready` proved there as it is now. `Ready` ties the three, `LiesIn` ties text and token, `IsPart` text and part, and
+// `start ≤ length source.now` text and place, so they are clauses: no type of one of them can hold them.
 ghost use Rattle.std.specs.Prelude.{◌≤◌, length};
 ghost use Rattle.lexer.specs.Promise.{IsPart};
 ghost use Rattle.tree.specs.Promise.{kind_number};

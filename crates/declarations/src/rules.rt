@@ -1,4 +1,7 @@
 // Rules, names and references: `parse_rule`, `parse_token_reference`.
+// Text, token and store are three parameters: the token differs at each call, so a struct of the three would be made anew for each, and
+// `Ready` proved there as it is now. `Ready` ties the three, and `string_of` ties a token to a part of the text, so they are clauses: no type
+// of one of them can hold them.
 ghost use Rattle.std.specs.Prelude.{◌≡◌, ◌+◌, Some};
 ghost use Rattle.tokens.specs.Promise.{stream, string_of};
 ghost use Rattle.parser.specs.Storing.{lent_of, Kept, nodes_of};
@@ -6,14 +9,14 @@ ghost use Rattle.parser.specs.Steps.{Ready, Parses, ParsesList};
 ghost use Rattle.tree.specs.Promise.{kind_number};
 ghost use Rattle.tree.specs.Stored.{rule_branch, reference_branch, name_branch, named_node_branch, literal_branch};
 ghost use Rattle.error.specs.Promise.{cause_number};
-ghost use Rattle.notation.specs.Parser.{eat, until, comma_or_not, parse_identifier};
 ghost use Rattle.notation.specs.Declarations.{parse_rule, parse_token_reference, parse_named_node, names};
 ghost use Rattle.declarations.specs.Promise.{literal_at};
 
 use error::{Cause, Stop};
 use lexer::{Part, Token};
 use parser::parts::Shape;
-use parser::props::{Comma, Opened};
+pub use parser::parts::parse_name;
+use parser::props::Comma;
 use parser::store::Store;
 use parser::{LEVELS, parts, props};
 use tree::NodeKind;
@@ -65,48 +68,6 @@ pub fn parse_token_reference(
     }
 }
 
-// A name alone, as a record of a kind.
-pub fn parse_name(
-    source: &[u8],
-    token: Token,
-    kind: NodeKind,
-    store: &mut Store,
-) -> Result<Token, Stop>
-    requires { Ready source.now token (lent_of store.old) }
-    ensures kept { Kept store.old store.new }
-    ensures parses { Parses (parse_identifier (stream source.now token)) (nodes_of (name_branch (kind_number kind))) source.now token
-        (lent_of store.old) (lent_of store.new) result }
-{
-    let (name, named) = tokens::parse_identifier(source, token)?;
-    store.put_named(kind, tokens::start(token), name.of(source), 0, 0);
-    Ok(named)
-}
-
-// Names up to their brace, commas between them or not.
-fn names_list(
-    source: &[u8],
-    token: Token,
-    kind: NodeKind,
-    store: &mut Store,
-) -> Result<(Token, usize), Stop>
-    requires { Ready source.now token (lent_of store.old) }
-    ensures kept { Kept store.old store.new }
-    ensures parses { ParsesList (until (eat "}") comma_or_not (λ _. parse_identifier) (stream source.now token)) (nodes_of (name_branch (kind_number kind))) source.now token 1
-        (lent_of store.old) (lent_of store.new) result }
-{
-    let mut t = token;
-    let mut count = 0;
-    loop {
-        match props::opening(source, t, 0x7D, Comma::May, count)? {
-            Opened::Closed(after) => return Ok((after, count)),
-            Opened::Item(item) => {
-                t = parse_name(source, item, kind, store)?;
-                count += 1;
-            }
-        }
-    }
-}
-
 // Names in braces, as records of a kind.
 pub fn parse_names(
     source: &[u8],
@@ -119,8 +80,11 @@ pub fn parse_names(
     ensures parses { ParsesList (names (stream source.now token)) (nodes_of (name_branch (kind_number kind))) source.now token 2
         (lent_of store.old) (lent_of store.new) result }
 {
-    let opened = tokens::expect_punctuation(source, token, 0x7B)?;
-    names_list(source, opened, kind, store)
+    let opened = tokens::expect_punctuation(source, token, '{' as u32)?;
+    let name = |source: &[u8], token: Token, store: &mut Store| {
+        parse_name(source, token, kind, store)
+    };
+    props::until(source, opened, '}' as u32, Comma::May, name, store)
 }
 
 // A name with its props.

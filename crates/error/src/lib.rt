@@ -36,7 +36,7 @@ pub enum Cause {
 }
 
 impl Cause {
-    // The number of a cause.
+    // The number of a cause. `From<Cause>` for u32 would hold the same `as`, and `u32::from(cause)` would not say which number it is.
     pub fn number(self) -> u32
         ensures { result ≡ cause_number self }
     {
@@ -44,13 +44,15 @@ impl Cause {
     }
 }
 
-// What stops a reading, and where.
+// What stops a reading, and where. `Stop` and `LineInfo`, and the types of two fields in other crates, stay apart: their fields mean different
+// things, and as one type, a place could be taken for a line.
 #[derive(Clone, Copy, Debug, PartialEq, Eq)]
 pub struct Stop {
     pub cause: Cause,
     pub place: usize,
 }
 
+// A stop, with the line and column of its place.
 #[derive(Clone, Copy, Debug, PartialEq, Eq)]
 pub struct Refusal {
     pub cause: Cause,
@@ -59,6 +61,7 @@ pub struct Refusal {
     pub column: usize,
 }
 
+// The line and column of a place.
 #[derive(Clone, Copy, Debug, PartialEq, Eq)]
 pub struct LineInfo {
     pub line: usize,
@@ -66,7 +69,7 @@ pub struct LineInfo {
 }
 
 // The line and column of a place: 1 and the line feeds before it, and the bytes since the last of them. A place past the end counts the
-// whole text.
+// whole text: text and place are two parameters, since no part of the text ends there.
 pub fn line_info(text: &[u8], place: usize) -> LineInfo
     ensures { (result.line ≡ line_at text.now place) × (result.column ≡ column_at text.now place) }
 {

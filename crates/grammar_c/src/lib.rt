@@ -1,6 +1,6 @@
 // The library's calls under plain names, for programs in Rust or C to link: include/hemvuda.h declares them, compare/ and examples/
-// call them. An answer is six words: those of a refusal are its cause, its place, line and column, 0, 0; where there is none, the
-// first four are 0. Fewer than six words that are lent for it are left as they were.
+// call them, which is why their parameters are slices alone. An answer is six words: those of a refusal are its cause, its place, line
+// and column, 0, 0; where there is none, the first four are 0. Fewer than six words that are lent for it are left as they were.
 #![tactic(auto)]
 
 ghost use Rattle.std.specs.Prelude.{◌≡◌};

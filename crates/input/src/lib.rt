@@ -8,10 +8,10 @@ ghost use Rattle.reader.specs.Whole.{First, Reads};
 
 use error::Stop;
 use lexer::Token;
+use reader::blocks::Extent;
 use reader::whole;
-use reader::whole::Stored;
 
-// The source text, and the current token by value.
+// The source text, and the current token by value. What is asked of the two (`First`, and the length of the text) no field's type can say.
 #[derive(Clone, Copy)]
 pub struct Reader<'a> {
     pub source: &'a [u8],
@@ -35,7 +35,7 @@ impl<'a> Reader<'a> {
     }
 
     // At the first token: the tree of the text is stored where there is room for all of it.
-    pub fn parse(self, records: &mut [u32], texts: &mut [u8]) -> Result<Stored, Stop>
+    pub fn parse(self, records: &mut [u32], texts: &mut [u8]) -> Result<Extent, Stop>
         requires { (length self.source.now ≤ 0x10000) × First self.source.now self.token }
         ensures { Reads self.entry.source.now records.old texts.old records.new texts.new result }
     {
@@ -44,7 +44,7 @@ impl<'a> Reader<'a> {
 }
 
 // The tree of a text is measured, and stored where there is room for all of it.
-pub fn parse(source: &[u8], records: &mut [u32], texts: &mut [u8]) -> Result<Stored, Stop>
+pub fn parse(source: &[u8], records: &mut [u32], texts: &mut [u8]) -> Result<Extent, Stop>
     requires { length source.now ≤ 0x10000 }
     ensures { Reads source.now records.old texts.old records.new texts.new result }
 {

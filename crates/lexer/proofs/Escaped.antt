@@ -8,7 +8,7 @@ use mathlib.Core.Option.{Option, none, some}
 use Prim.Native.Nat.{ℕ, zero, suc, ◌+◌, ◌-◌, ◌*◌, ◌/◌, ◌≤◌, ◌<◌}
 use native.Mathlib.Omega.{arith}
 use lib.Dec.{eqb}
-use lib.ListN.{length, drop, length-append}
+use lib.ListN.{length, drop, length-append, drop_of_length-le}
 use borrow.Author.Tests.{le-ltb, le-leb, eq-eqb, ne_eqb}
 use Rattle.std.proofs.Common.{Some, None}
 use Rattle.std.specs.Option.{unwrap_or}
@@ -18,7 +18,7 @@ use Rattle.lexer.specs.declared.escapes.Taken.{Taken}
 use Rattle.lexer.specs.declared.escapes.Atom.{Atom}
 use Rattle.basics.specs.Basics.{if◌then◌otherwise◌, is, among, letters, head}
 use Rattle.characters.specs.Places.{decode_at, past, chars_at, peek_at}
-use Rattle.characters.specs.Utf8.{codes, encode_all, width, encode, is_scalar}
+use Rattle.characters.specs.Utf8.{codes, codes_from, encode_all, width, encode, is_scalar}
 use Rattle.characters.specs.Promise.{Next, written, written_all, scalar_bytes}
 use Rattle.characters.proofs.Encode.{scalar-low, width_some, IsScalar, width_small, ascii-wide}
 use Rattle.characters.proofs.Written.{bytes-some, length-written}
@@ -168,6 +168,20 @@ module _ (s : List ℕ) (at : ℕ) where
   unfolding until_at
   until-big v h = rw (big (chars_at s at) v h)
 
+  -- where no character stands there are no digits and no brace
+  pub until-out : (v : ℕ) → chars_at s at ≡ [] → until_at v s at ≡ None
+  unfolding until_at until_brace
+  until-out v h = rw h
+
+  pub fixed-out : (k v : ℕ) → 1 ≤ k → chars_at s at ≡ [] → fixed_at k v s at ≡ None
+  unfolding fixed_at fixed
+  fixed-out zero v l h = absurd (omega arith)
+  fixed-out (suc k) v l h = rw h
+
+  pub chars-end : length s ≤ at → chars_at s at ≡ []
+  unfolding codes_from
+  chars-end h = rw (drop_of_length-le s h)
+
   pub until_not : (v c : ℕ) → c ≡ peek_at s at → (c ≡ 0x7D → ⊥) → None ≡ digit_of (hex_digit c) → until_at v s at ≡ None
   unfolding until_at until_brace
   until_not v c p o e = by (decode_at s at) refl
@@ -180,9 +194,6 @@ module _ (s : List ℕ) (at : ℕ) where
 
   brace : (c : ℕ) → c ≡ peek_at s at → c ≡ 0x7D → Next s at 0x7D
   brace c p e = next-head s at 0x7D (omega arith) (omega arith) (sym p ∙ e)
-
-  pub brace-inside : (c : ℕ) → c ≡ peek_at s at → c ≡ 0x7D → at + 1 ≤ length s
-  brace-inside c p e = (brace c p e).inside
 
   pub until-end : (v c : ℕ) → c ≡ peek_at s at → c ≡ 0x7D → (ok : Bool) → ok ≡ is_scalar v → until_at v s at ≡ then_some ok (taken v (at + 1))
   unfolding until_at scalar past
@@ -477,9 +488,6 @@ pub record Decoding (body out₀ out : List ℕ) (at n : ℕ) : Type 0 where
   pub same : length out ≡ length out₀
   pub size : n + length (encode_all (value_at body at)) ≡ length (encode_all (value_at body 0))
   pub bytes : written_all out n (value_at body at) ≡ written_all out₀ 0 (value_at body 0)
-
-pub decoding : (body out : List ℕ) → Decoding body out out 0 0
-decoding body out = record { inside = omega arith; few = omega arith; same = refl; size = omega arith; bytes = refl }
 
 all_one : (out : List ℕ) (at c : ℕ) (cs : List ℕ) → written_all out at (c ∷ cs) ≡ written_all (written out at (encode c)) (at + width c) cs
 unfolding written_all

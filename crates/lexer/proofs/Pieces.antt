@@ -1,6 +1,6 @@
 -- The answers for the pieces of a text.
 -- Assumes nothing.
-use mathlib.Core.Path.{◌≡◌, refl, sym, ◌∙◌, ap, ap₂, subst}
+use mathlib.Core.Path.{◌≡◌, refl, sym, ◌∙◌, ap, ap₂}
 use mathlib.Core.Bool.{Bool, true, false}
 use mathlib.Core.List.{List, ◌∷◌, []}
 use mathlib.Core.Logic.{◌⊎◌, inl, inr}
@@ -31,7 +31,7 @@ use Rattle.basics.specs.Basics.{is, among, letters}
 use Rattle.basics.proofs.Tests.{both_true, impossible}
 use Rattle.characters.specs.Classes.{is_line_terminator, is_punctuation, is_word}
 use Rattle.lexer.specs.Tokens.{body, never, Piece, string_of, set_of, at_of, solid, Tokens, tokens_from}
-use Rattle.lexer.specs.Promise.{opens_set, tokens_at, found_at, end_of, Settled, Skipped, IsPart, Lexes, Reads}
+use Rattle.lexer.specs.Promise.{opens_set, tokens_at, found_at, end_of, Settled, IsPart, Lexes, Reads}
 use Rattle.lexer.proofs.Tokens.{tokens-at, tokens-next, tokens-piece}
 use Rattle.characters.proofs.Runs.{run_no, run_on}
 use Rattle.lexer.specs.Tokens as T
@@ -113,10 +113,6 @@ module _ (s : List ℕ) (at : ℕ) (i : at + 1 ≤ length s) where
       → Lexes s at 1 (string_of (chars_at s (at + 1)) (body is_line_terminator q false (chars_at s (at + 1)))) (token (String q (part (at + 1) e)) at end)
   string-done q e end p h = string_lexes q p (got_of (at + 1) (chars_at s (at + 1)) (body is_line_terminator q false (chars_at s (at + 1))) e end h)
 
-  pub string_fails : (q : ℕ) → None ≡ end_of is_line_terminator q s (at + 1) false
-      → Lexes s at 1 (string_of (chars_at s (at + 1)) (body is_line_terminator q false (chars_at s (at + 1)))) (stopped UnterminatedString at)
-  string_fails q h = string_open (not_got (at + 1) (chars_at s (at + 1)) (body is_line_terminator q false (chars_at s (at + 1))) h)
-
   set_open : (x : Bool) {o : Option ℕ} → o ≡ none → Lexes s at 1 (set_of x (drop 1 (chars_at s (at + 1))) o) (stopped UnterminatedSet at)
   set_open x h = rw h (record { tokens = refl; placed = tt })
 
@@ -126,10 +122,6 @@ module _ (s : List ℕ) (at : ℕ) (i : at + 1 ≤ length s) where
   pub set-done : (x : Bool) (e end : ℕ) → Next s (at + 1) 0x5B → Some (e, end) ≡ end_of never 0x5D s (at + 2) false
       → Lexes s at 1 (set_of x (drop 1 (chars_at s (at + 1))) (body never 0x5D false (drop 1 (chars_at s (at + 1))))) (token (Set x (part (at + 2) e)) at end)
   set-done x e end n h = rw (set_body n) (set_lexes x n (got_of (at + 2) (chars_at s (at + 2)) (body never 0x5D false (chars_at s (at + 2))) e end h))
-
-  pub set_fails : (x : Bool) → Next s (at + 1) 0x5B → None ≡ end_of never 0x5D s (at + 2) false
-      → Lexes s at 1 (set_of x (drop 1 (chars_at s (at + 1))) (body never 0x5D false (drop 1 (chars_at s (at + 1))))) (stopped UnterminatedSet at)
-  set_fails x n h = set_open x (set_body n ∙ not_got (at + 2) (chars_at s (at + 2)) (body never 0x5D false (chars_at s (at + 2))) h)
 
   at-of : (k : ℕ) → 1 ≤ k → Lexes s at 1 (at_of (chars_at s (at + 1)) k) (token (K.At (part (at + 1) (past (at + 1) k (chars_at s (at + 1))))) at (past (at + 1) k (chars_at s (at + 1))))
   at-of zero h = absurd (omega arith)
@@ -261,17 +253,3 @@ peek_set s c next e = next-head s next 0x5B (omega arith) (omega arith) (eqb-tru
 pub reads_end : (s : List ℕ) (at : ℕ) → decode_at s at ≡ None → Reads s at (Ok (Eof at))
 unfolding tokens_at tokens_from
 reads_end s at e = record { tokens = rw (codes_off s at e); placed = tt }
-
--- what skipping gives
-pub clear : (s : List ℕ) (from at : ℕ) (r : Result ℕ Stop) → Skipped s from r → r ≡ Ok at
-    → (from ≤ at) × (tokens_at s from ≡ tokens_at s at) × Settled (chars_at s at)
-clear s from at r h e = subst (Skipped s from) e h
-
-pub unclosed : (s : List ℕ) (from : ℕ) (stop : Stop) (r : Result ℕ Stop) → Skipped s from r → r ≡ Err stop → Reads s from (Err stop)
-unclosed s from stop r h e = record { tokens = subst (Skipped s from) e h; placed = tt }
-
-pub after : (s : List ℕ) (from at : ℕ) (r : Result Token Stop) → from ≤ at → tokens_at s from ≡ tokens_at s at → Reads s at r → Reads s from r
-after s from at (Ok (Of k start end)) h e p =
-    let q = p.placed in record { tokens = e ∙ p.tokens; placed = (omega arith, q.1, q.2, q.3, q.4) }
-after s from at (Ok (Eof x)) h e p = record { tokens = e ∙ p.tokens; placed = tt }
-after s from at (Err stop) h e p = record { tokens = e ∙ p.tokens; placed = tt }

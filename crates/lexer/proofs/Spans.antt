@@ -80,9 +80,6 @@ dash-at : (s : List ℕ) (at : ℕ) → peek_at s at ≡ 0x2D → atoms_at s at 
 unfolding atoms_at
 dash-at s at h = ap (λ (l : List ℕ). atoms_from l 0) (next-head s at 0x2D (omega arith) (omega arith) h).chars ∙ atoms-plain 0x2D (chars_at s (at + 1)) refl
 
-pub dash-inside : (s : List ℕ) (at : ℕ) → peek_at s at ≡ 0x2D → at + 1 ≤ length s
-dash-inside s at h = (next-head s at 0x2D (omega arith) (omega arith) h).inside
-
 none_left : (a : Atom) → range_end a (atoms_from [] 0) ≡ none
 unfolding range_end atoms_from
 none_left a = refl

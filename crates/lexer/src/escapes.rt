@@ -1,19 +1,24 @@
 // Escapes, in strings and in sets alike.
+//
+// Functions take the whole body and a place in it, not the rest from that place on: the `end` of an answer is a place in the body, from which
+// callers go on.
 ghost use Rattle.std.specs.Prelude.{◌≡◌, ℕ, ◌+◌, ◌≤◌, ◌<◌, length};
 ghost use Rattle.characters.specs.Utf8.{codes, encode_all};
 ghost use Rattle.characters.specs.Places.{chars_at};
 ghost use Rattle.characters.specs.Promise.{written_all};
-ghost use Rattle.lexer.specs.Escapes.{hex_digit, control, fixed, braced, or_letter, or_else, escape, decode_string};
+ghost use Rattle.lexer.specs.Escapes.{hex_digit, control, escape, decode_string};
 ghost use Rattle.lexer.specs.Promise.{digit_of, braced_at, until_at, fixed_at, Takes, ReadsAtom};
 
-// A character by its number, and the place after it.
+// A character by its number, and the place after it: a code and a place, where the fields of `Part` are two places and those of `Span` two
+// codes.
 #[derive(Clone, Copy, Debug, PartialEq, Eq)]
 pub struct Taken {
     pub code: u32,
     pub end: usize,
 }
 
-// A character of a body: its code, whether it was escaped, and the place after it.
+// A character of a body: its code, whether it was escaped, and the place after it. The structs of three fields in the crates above hold
+// records and tokens: none has these fields.
 #[derive(Clone, Copy, Debug, PartialEq, Eq)]
 pub struct Atom {
     pub code: u32,
@@ -22,7 +27,7 @@ pub struct Atom {
 }
 
 // Writes the value of a string's text into the part that is lent for it, each character where it fits, and counts its bytes in any
-// case.
+// case. The loop is no `for`: how far a step goes is known only when the atom is read.
 pub fn decode_string(body: &[u8], out: &mut [u8]) -> usize
     ensures { (result ≡ length (encode_all (decode_string (codes body.now)))) × (out.new ≡ written_all out.old 0 (decode_string (codes body.now))) × (result ≤ length body.now) }
 {
@@ -57,13 +62,18 @@ pub fn set_atom(body: &[u8], at: usize) -> Option<Atom>
     })
 }
 
-// The escape whose letter e stands before a place.
+// The escape whose letter e stands before a place: a number in braces or of four digits, a number of two digits, or else the letter or
+// what it stands for.
 fn decode_escape(body: &[u8], at: usize, e: u32) -> Taken
     ensures { Takes body.now at (escape e (chars_at body.now at)) result }
 {
+    let letter = Taken { code: e, end: at };
     match e {
-        0x75 | 0x55 => decode_unicode(body, at, e),
-        0x78 | 0x58 => decode_digits(body, at, e, 2),
+        0x75 | 0x55 => match decode_braced(body, at) {
+            Some(taken) => taken,
+            None => decode_fixed_hex(body, at, 4).unwrap_or(letter),
+        },
+        0x78 | 0x58 => decode_fixed_hex(body, at, 2).unwrap_or(letter),
         _ => Taken {
             code: control_code(e),
             end: at,
@@ -86,24 +96,6 @@ fn control_code(e: u32) -> u32
     }
 }
 
-// A number in braces, or of four digits, or else the letter before it.
-fn decode_unicode(body: &[u8], at: usize, e: u32) -> Taken
-    ensures { Takes body.now at (or_letter e (or_else (braced (chars_at body.now at)) (fixed 4 0 (chars_at body.now at)))) result }
-{
-    match decode_braced(body, at) {
-        Some(taken) => taken,
-        None => decode_digits(body, at, e, 4),
-    }
-}
-
-// A number of k digits, or else the letter before it.
-fn decode_digits(body: &[u8], at: usize, e: u32, k: usize) -> Taken
-    requires { k ≤ 4 }
-    ensures { Takes body.now at (or_letter e (fixed k 0 (chars_at body.now at))) result }
-{
-    decode_fixed_hex(body, at, k).unwrap_or(Taken { code: e, end: at })
-}
-
 // Exactly k digits.
 fn decode_fixed_hex(body: &[u8], from: usize, k: usize) -> Option<Taken>
     requires { k ≤ 4 }
@@ -111,7 +103,8 @@ fn decode_fixed_hex(body: &[u8], from: usize, k: usize) -> Option<Taken>
 {
     let mut v: u32 = 0;
     for i in 0..k {
-        let d = hex_digit(characters::peek(body, from + i))?;
+        let c = characters::peek(body, from + i)?;
+        let d = hex_digit(c)?;
         v = v * 16 + d;
     }
     characters::is_scalar(v).then_some(Taken {
@@ -124,7 +117,9 @@ fn decode_fixed_hex(body: &[u8], from: usize, k: usize) -> Option<Taken>
 fn decode_braced(body: &[u8], from: usize) -> Option<Taken>
     ensures { result ≡ braced_at body.now from }
 {
-    if characters::peek(body, from) != 0x7B || characters::peek(body, from + 1) == 0x7D {
+    if characters::peek(body, from) != Some(0x7B)
+        || characters::peek(body, from + 1) == Some(0x7D)
+    {
         return None;
     }
     decode_hex_scalar(body, from + 1)
@@ -134,10 +129,9 @@ fn decode_braced(body: &[u8], from: usize) -> Option<Taken>
 fn decode_hex_scalar(body: &[u8], from: usize) -> Option<Taken>
     ensures { result ≡ until_at 0 body.now from }
 {
-    let mut at = from;
     let mut v: u32 = 0;
-    loop {
-        let c = characters::peek(body, at);
+    for at in from..body.len() {
+        let c = characters::peek(body, at)?;
         if c == 0x7D {
             return characters::is_scalar(v).then_some(Taken {
                 code: v,
@@ -149,18 +143,13 @@ fn decode_hex_scalar(body: &[u8], from: usize) -> Option<Taken>
         if 0x110000 <= v {
             return None;
         }
-        at += 1;
     }
+    None
 }
 
 #[tactic(auto, using(std::proofs::lemmas::Bool::Decides::nat_tests), unfolding(crate::specs::Escapes::hex_digit))]
 fn hex_digit(c: u32) -> Option<u32>
     ensures { result ≡ digit_of (hex_digit c) }
 {
-    match c {
-        0x30..=0x39 => Some(c - 0x30),
-        0x41..=0x46 => Some(c - 0x37),
-        0x61..=0x66 => Some(c - 0x57),
-        _ => None,
-    }
+    char::from_u32(c)?.to_digit(16)
 }

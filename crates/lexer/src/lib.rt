@@ -1,4 +1,7 @@
 // The tokens of a grammar file. A token's text is a part of the source: strings and sets are decoded where they are stored.
+//
+// Functions take the whole source and a place in it, not the rest from that place on: tokens, parts and stops have places in the whole
+// source, and contracts speak of these.
 #![tactic(auto)]
 
 pub mod escapes; // what a backslash stands for, and the value of a string
@@ -14,7 +17,8 @@ ghost use Rattle.lexer.specs.Promise.{opens_set, end_of, Settled, Skipped, Lexes
 
 use error::{Cause, Stop};
 
-// A part of the source.
+// A part of the source, by two places. It holds no text, so that a token is a plain value: that a part lies within a text is said beside the
+// text (`IsPart`), and no invariant of this type can say it. `sets::Span` has two codes: as one type, a span could be taken for a part.
 #[derive(Clone, Copy, Debug, PartialEq, Eq)]
 pub struct Part {
     pub from: usize,
@@ -92,7 +96,7 @@ fn lex(source: &[u8], start: usize) -> Result<Token, Stop>
 fn opens_set(source: &[u8], c: u32, next: usize) -> bool
     ensures { result ≡ opens_set source.now c next }
 {
-    matches!(c, 0x24 | 0x21) && characters::peek(source, next) == 0x5B
+    matches!(c, 0x24 | 0x21) && characters::peek(source, next) == Some(0x5B)
 }
 
 // The place of the next token, past white space and comments. A comment that is not closed stops the lexer.
@@ -110,11 +114,11 @@ fn skip_trivia(source: &[u8], from: usize) -> Result<usize, Stop>
             }
             cursor += n;
         }
-        if characters::peek(source, cursor) != 0x2F {
+        if characters::peek(source, cursor) != Some(0x2F) {
             return Ok(cursor);
         }
         let d = characters::peek(source, cursor + 1);
-        if d == 0x2F {
+        if d == Some(0x2F) {
             cursor += 2;
             'line: loop {
                 let Some((e, m)) = characters::decode(source, cursor) else {
@@ -126,7 +130,7 @@ fn skip_trivia(source: &[u8], from: usize) -> Result<usize, Stop>
                 cursor += m;
             }
         }
-        if d != 0x2A {
+        if d != Some(0x2A) {
             return Ok(cursor);
         }
         let start = cursor;
@@ -140,7 +144,7 @@ fn skip_trivia(source: &[u8], from: usize) -> Result<usize, Stop>
             };
             cursor += m;
             if e == 0x2A {
-                if characters::peek(source, cursor) == 0x2F {
+                if characters::peek(source, cursor) == Some(0x2F) {
                     cursor += 1;
                     continue 'trivia;
                 }

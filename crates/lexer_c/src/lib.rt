@@ -1,4 +1,5 @@
-// The lexer under plain names, for programs in Rust or C to link: compare/lexer does.
+// The lexer under plain names, for programs in Rust or C to link: compare/lexer does. Parameters are those of the C interface: a source and a
+// place in it are two of them.
 #![tactic(auto)]
 
 ghost use Rattle.std.specs.Prelude.{◌≡◌, ◌+◌, ◌≤◌, length};

@@ -14,9 +14,9 @@ use std::io::{Read, Write};
 fn print<W: Write>(text: &[u8], output: &mut W) -> io::Result<()>
     ensures { OnOk result (Appends (W.contents output.old) (W.contents output.new) (printed text.now)) }
 {
-    let mut records = [0u32; 14000];
-    let mut texts = [0u8; 32768];
-    let mut out = [0u8; 65535];
+    let mut records = [0u32; printing::WORDS];
+    let mut texts = [0u8; printing::TEXTS];
+    let mut out = [0u8; printing::OUTPUT];
     match calls::normal_text(text, &mut records, &mut texts, &mut out) {
         Ok(n) => output.write_all(&out[..n]),
         Err(refusal) => write!(output, "{}", Line(refusal)),

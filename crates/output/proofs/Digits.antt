@@ -5,9 +5,10 @@ use mathlib.Core.List.{List, [], ◌∷◌, ◌++◌, append_assoc}
 use Prim.Native.Nat.{ℕ, zero, suc, ◌+◌, ◌-◌, ◌*◌, ◌/◌, ◌%◌, ◌≤◌, ◌<◌}
 use native.Mathlib.Omega.{arith}
 use native.Mathlib.Decide.{dec_lt, dec_le}
+use native.Mathlib.Numerals.{add-one}
 use native.Mathlib.Nat.{div-div-eq-div-mul}
 use lib.Dec.{eqb}
-use lib.ListN.{length, length-append}
+use lib.ListN.{length, length-append, get_or}
 use borrow.Author.Tests.{le-leb, lt-leb}
 use Rattle.spelling.specs.Spelling.{hex_digit, hex_from, code_text, span_text}
 use Rattle.basics.specs.Basics.{letters}
@@ -65,7 +66,7 @@ hex-upper (suc k) n rest =
     ]
 
 -- all six, each at its power of 16
-pub hex-digits : (n : ℕ)
+hex-digits : (n : ℕ)
     → ((((digit_at n 0x100000 ++ digit_at n 0x10000) ++ digit_at n 0x1000) ++ digit_at n 0x100) ++ digit_at n 0x10) ++ (hex_digit (n % 16) ∷ []) ≡ hex_from 6 n []
 unfolding upper
 hex-digits n =
@@ -74,6 +75,28 @@ hex-digits n =
     let c = digit_up (n / 16 / 16) in
     let d = digit_up (n / 16 / 16 / 16) in
     sym (hex-upper 5 n [] ∙ rw (d 0x10, c 0x100, c 0x10, b 0x1000, b 0x100, b 0x10, a 0x10000, a 0x1000, a 0x100, a 0x10))
+
+-- the powers of 16 of all digits but the last, from the highest
+abbrev pub units : List ℕ
+units = 0x100000 ∷ 0x10000 ∷ 0x1000 ∷ 0x100 ∷ 0x10 ∷ []
+
+-- the first k of them
+unfoldable pub first_digits : (n k : ℕ) → List ℕ
+first_digits n zero = []
+first_digits n (suc k) = first_digits n k ++ digit_at n (get_or units k 0)
+
+pub first-next : (n k : ℕ) → first_digits n k ++ digit_at n (get_or units k 0) ≡ first_digits n (k + 1)
+unfolding first_digits
+first-next n k = rw (add-one) refl
+
+pub first-small : (n k : ℕ) → length (first_digits n k) ≤ k
+unfolding first_digits
+first-small n zero = omega arith
+first-small n (suc k) = omega (arith, length-append (first_digits n k) (digit_at n (get_or units k 0)), first-small n k, digit-small n (get_or units k 0))
+
+pub first-all : (n : ℕ) → first_digits n 5 ++ (hex_digit (n % 16) ∷ []) ≡ hex_from 6 n []
+unfolding first_digits
+first-all n = hex-digits n
 
 -- ------------------------------------------------------------------ how long texts are
 

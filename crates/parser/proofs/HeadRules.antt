@@ -11,14 +11,13 @@ use Rattle.std.specs.Prelude.{Option, Some, None, Ok}
 use borrow.Author.Tests.{eq-eqb, ne_eqb}
 use lib.Dec.{eqb}
 use lib.ListN.{length}
-use Rattle.basics.specs.Basics.{letters, among, same, spells}
+use Rattle.basics.specs.Basics.{same, spells}
 use Rattle.error.specs.Causes.{too_deep, one_part}
 use Rattle.characters.specs.Utf8.{codes, encode_all}
 use Rattle.characters.specs.Places.{cut}
 use Rattle.lexer.specs.Tokens.{Tokens}
 use Rattle.lexer.specs.Escapes.{decode_string}
 use Rattle.lexer.specs.Promise.{is_plain, IsPart, part_of}
-use Rattle.lexer.specs.declared.Kind.{Kind}
 use Rattle.lexer.proofs.Spelled.{spells-codes}
 use Rattle.tree.specs.Promise.{repeat_of}
 use Rattle.tree.specs.declared.RepeatKind.{RepeatKind as Repeats}
@@ -30,7 +29,7 @@ use Rattle.notation.specs.Expressions.{marker, parse_props, repeat_mark, repeat_
 use Rattle.tokens.specs.Promise.{stream, start_in, end_in, mark_of, LiesIn, Identifies, Expects, Whole}
 use Rattle.parser.specs.Storing.{Lent, Stores, node, flat, nodes_of}
 use Rattle.parser.specs.Steps.{Onward, Ready, Gives, Lists}
-use Rattle.parser.specs.Shapes.{IsToken, repeated_of, repeat_nodes, parse_params, parse_head, Heads, parse_marker, YieldsMarker, specialize_head, SpecializeHeads, ends_by, is_std, sequence_shape, content_of, ReadyContent, StoredContent}
+use Rattle.parser.specs.Shapes.{IsToken, repeated_of, repeat_nodes, parse_params, parse_head, Heads, parse_marker, YieldsMarker, specialize_head, SpecializeHeads, is_std, sequence_shape, content_of, ReadyContent, StoredContent}
 use Rattle.lexer.specs.declared.Token.{Token}
 use Rattle.lexer.specs.declared.Token.TheVariants.{Of, Eof}
 use Rattle.lexer.specs.declared.Part.{Part}
@@ -241,25 +240,15 @@ module _ (s : List ℕ) (t : Token) {l : Lent} {a : Part} {u v : Token} (y : Rea
 
 -- ------------------------------------------------------------------ small tests
 
-pub ends-mark : {t : Token} {k : Kind} {start end : ℕ} → t ≡ Of k start end → ends_by t ≡ among (letters "})|{,>") (mark_of t)
-ends-mark e = rw e
-
 pub shape_some : (n : ℕ) → (n ≡ 0 → ⊥) → Other ≡ sequence_shape n
 shape_some zero h = absurd (h refl)
 shape_some (suc n) h = refl
-
-and-false : (b : Bool) → b && false ≡ false
-and-false true = refl
-and-false false = refl
 
 and-true : (b : Bool) → b && true ≡ b
 and-true true = refl
 and-true false = refl
 
 module _ (s : List ℕ) (a : Part) (u : Token) {c : ℕ} (e : c ≡ mark_of u) where
-  pub std_not : (c ≡ 0x2E → ⊥) → false ≡ is_std s a u
-  std_not h = rw (ne_eqb (mark_of u) 0x2E (λ z. h (e ∙ z))) (sym (and-false (spells "std" (part_of s a))))
-
   pub std_spelled : {r : Bool} → c ≡ 0x2E → r ≡ spells "std" (part_of s a) → r ≡ is_std s a u
   std_spelled h q = q ∙ rw (sym e ∙ h) (sym (and-true (spells "std" (part_of s a))))
 

@@ -16,3 +16,4 @@ pub mod Marks
 pub mod Itemizing
 pub mod InnerLaws
 pub mod Falls
+pub mod ByNodes

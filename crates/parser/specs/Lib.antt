@@ -1,3 +1,4 @@
 pub mod Storing
 pub mod Steps
 pub mod Shapes
+pub mod Lists

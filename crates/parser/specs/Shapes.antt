@@ -157,11 +157,11 @@ pub record YieldsEnd (D : Answer ℕ (M.Option (Item ℕ))) (s : List ℕ) (t : 
   pub gives : D ≡ read none (stream s t)
   pub same : b ≡ a
 
--- what an answer says of D: it is a marker or an expression, whose nodes are stored, or the sequence's end, or this refusal
-abbrev pub ExpressesItem : Answer ℕ (M.Option (Item ℕ)) → List ℕ → Token → (a b : Lent) → Result ItemRead Stop → Type 0
-ExpressesItem D s t a b (Ok (I.Marker u)) = YieldsMarker D s t a u b
-ExpressesItem D s t a b (Ok (I.Expression r)) = YieldsItem D s t a r.token b r.start r.shape
-ExpressesItem D s t a b (Ok I.End) = YieldsEnd D s t a b
+-- what an answer says of D: it is a marker or an expression, whose nodes are stored, or none at the sequence's end, or this refusal
+abbrev pub ExpressesItem : Answer ℕ (M.Option (Item ℕ)) → List ℕ → Token → (a b : Lent) → Result (Option ItemRead) Stop → Type 0
+ExpressesItem D s t a b (Ok (Some (I.Marker u))) = YieldsMarker D s t a u b
+ExpressesItem D s t a b (Ok (Some (I.Expression r))) = YieldsItem D s t a r.token b r.start r.shape
+ExpressesItem D s t a b (Ok None) = YieldsEnd D s t a b
 ExpressesItem D s t a b (Err e) = D ≡ refused (cause_number e.cause) e.place
 
 -- how many of the items are markers

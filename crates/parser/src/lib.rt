@@ -1,6 +1,11 @@
 // From the tokens of a text to the records of its tree: expressions, from `parse_braced_expression` to `parse_expression_choice`.
 // The functions call each other in a cycle: with each call the rest of the text is shorter, or it is the same and the function comes
-// later in the grammar. `left` is how many levels may still be entered.
+// later in the grammar. `left` is how many levels may still be entered, and no length of `source`.
+// Text, token and store are three parameters. The token differs at each call: a struct of the three would be made anew for each, and `Ready`
+// proved there as it is now; changed in place, each contract would say besides that the text is the same. `left` differs from call to call
+// in the same way. `Ready`, `ReadyArms`, `Behind`, `Onward`, `InlineName`, `IsMark`, `name_of` and `at_of` tie two or three parameters, so they
+// are clauses: no type of one of them can hold them. So is `IsToken`, of the token alone: `tokens::next` and `tokens::start` take the end too,
+// and a type without the end would be turned back to a token at each call.
 #![tactic(auto)]
 
 pub mod store; // records and texts in what is lent
@@ -40,9 +45,9 @@ pub fn braced(
     ensures parses { ExpressesBraced (parse_braced_expression (choice_at left) (stream source.now token)) source.now token
         (lent_of store.old) (lent_of store.new) result }
 {
-    let opened = tokens::expect_punctuation(source, token, 0x7B)?;
+    let opened = tokens::expect_punctuation(source, token, '{' as u32)?;
     let inside = parse_expression_choice(source, left, opened, store)?;
-    let closed = tokens::expect_punctuation(source, inside.token, 0x7D)?;
+    let closed = tokens::expect_punctuation(source, inside.token, '}' as u32)?;
     Ok(Expressed {
         token: closed,
         ..inside
@@ -208,7 +213,7 @@ fn parens(
     ensures parses { Expresses (parse_parenthesized_expression (choice_at left) (start_in first) (stream source.now token)) source.now first 1 0
         (lent_of store.old) (lent_of store.new) result }
 {
-    if let Some(empty) = tokens::eat_punctuation(source, token, 0x29)? {
+    if let Some(empty) = tokens::eat_punctuation(source, token, ')' as u32)? {
         let start = tokens::start(first);
         store.put_plain(NodeKind::Sequence, start, 1, 0);
         return Ok(Expressed {
@@ -218,7 +223,7 @@ fn parens(
         });
     }
     let inside = parse_expression_choice(source, left, token, store)?;
-    let closed = tokens::expect_punctuation(source, inside.token, 0x29)?;
+    let closed = tokens::expect_punctuation(source, inside.token, ')' as u32)?;
     Ok(Expressed {
         token: closed,
         ..inside
@@ -240,12 +245,12 @@ fn pair(
         (lent_of store.old) (lent_of store.new) result }
 {
     let first = parse_expression_choice(source, left, token, store)?;
-    let Some(comma) = tokens::eat_punctuation(source, first.token, 0x2C)? else {
+    let Some(comma) = tokens::eat_punctuation(source, first.token, ',' as u32)? else {
         parts::parse_specialize_content(source, start, first.start, first.shape, store)?;
-        return tokens::expect_punctuation(source, first.token, 0x3E);
+        return tokens::expect_punctuation(source, first.token, '>' as u32);
     };
     let second = parse_expression_choice(source, left, comma, store)?;
-    tokens::expect_punctuation(source, second.token, 0x3E)
+    tokens::expect_punctuation(source, second.token, '>' as u32)
 }
 
 // `parse_specialize_expression`: at `@specialize` or `@extend`.
@@ -305,7 +310,8 @@ fn inline(
     })
 }
 
-// Arguments after `<`.
+// Arguments after `<`. It loops itself: an item of `props::until` takes a token, and an argument may be empty. A closure in a cycle of calls
+// must also state its contract, so the call would be longer than the loop.
 #[cycle(expressions)]
 fn list(source: &[u8], left: usize, token: Token, store: &mut Store) -> Result<(Token, usize), Stop>
     requires { Ready source.now token (lent_of store.old) }
@@ -316,7 +322,7 @@ fn list(source: &[u8], left: usize, token: Token, store: &mut Store) -> Result<(
     let mut t = token;
     let mut count = 0;
     loop {
-        match props::opening(source, t, 0x3E, Comma::Must, count)? {
+        match props::opening(source, t, '>' as u32, Comma::Must, count)? {
             Opened::Closed(after) => return Ok((after, count)),
             Opened::Item(item) => {
                 let argument = parse_expression_choice(source, left, item, store)?;
@@ -327,7 +333,8 @@ fn list(source: &[u8], left: usize, token: Token, store: &mut Store) -> Result<(
     }
 }
 
-// `parse_arguments`: those of a name, none where no `<` follows.
+// `parse_arguments`: those of a name, none where no `<` follows. `props::optional` would be no shorter: it would need a closure over `left`,
+// and in a cycle of calls a closure must state its contract.
 #[cycle(expressions)]
 fn args(source: &[u8], left: usize, token: Token, store: &mut Store) -> Result<(Token, usize), Stop>
     requires { Ready source.now token (lent_of store.old) }
@@ -335,7 +342,7 @@ fn args(source: &[u8], left: usize, token: Token, store: &mut Store) -> Result<(
     ensures parses { ParsesList (parse_arguments (choice_at left) (stream source.now token)) (nodes_of expression_branch) source.now token 0
         (lent_of store.old) (lent_of store.new) result }
 {
-    match tokens::eat_punctuation(source, token, 0x3C)? {
+    match tokens::eat_punctuation(source, token, '<' as u32)? {
         Some(after) => list(source, left, after, store),
         None => Ok((token, 0)),
     }
@@ -370,9 +377,9 @@ fn parse_expression_suffix(
     })
 }
 
-// A marker, an expression, or the sequence's end.
+// A marker or an expression, or none at the sequence's end.
 #[cycle(expressions)]
-fn item(source: &[u8], left: usize, token: Token, store: &mut Store) -> Result<Item, Stop>
+fn item(source: &[u8], left: usize, token: Token, store: &mut Store) -> Result<Option<Item>, Stop>
     requires { Ready source.now token (lent_of store.old) }
     ensures kept { Kept store.old store.new }
     ensures parses { ExpressesItem (parse_item (choice_at left) [] (stream source.now token)) source.now token
@@ -382,10 +389,10 @@ fn item(source: &[u8], left: usize, token: Token, store: &mut Store) -> Result<I
         return parts::parse_marker(source, token, kind, store);
     }
     if parts::ends_sequence(token) {
-        return Ok(Item::End);
+        return Ok(None);
     }
     let suffixed = parse_expression_suffix(source, left, token, store)?;
-    Ok(Item::Expression(suffixed))
+    Ok(Some(Item::Expression(suffixed)))
 }
 
 // Markers and expressions up to the sequence's end.
@@ -401,17 +408,8 @@ fn items(source: &[u8], left: usize, token: Token, store: &mut Store) -> Result<
     let mut expressions = 0;
     let mut start = 0;
     let mut shape = Shape::Other;
-    loop {
-        match item(source, left, t, store)? {
-            Item::End => {
-                return Ok(Items {
-                    token: t,
-                    markers,
-                    expressions,
-                    start,
-                    shape,
-                });
-            }
+    while let Some(read) = item(source, left, t, store)? {
+        match read {
             Item::Marker(after) => {
                 t = after;
                 markers += 1;
@@ -424,6 +422,13 @@ fn items(source: &[u8], left: usize, token: Token, store: &mut Store) -> Result<
             }
         }
     }
+    Ok(Items {
+        token: t,
+        markers,
+        expressions,
+        start,
+        shape,
+    })
 }
 
 #[cycle(expressions)]
@@ -471,7 +476,7 @@ fn arms(source: &[u8], left: usize, token: Token, store: &mut Store) -> Result<A
     let mut t = token;
     let mut count = 0;
     let mut empty = None;
-    while let Some(bar) = tokens::eat_punctuation(source, t, 0x7C)? {
+    while let Some(bar) = tokens::eat_punctuation(source, t, '|' as u32)? {
         let arm = parse_expression_sequence(source, left, bar, store)?;
         t = arm.token;
         count += 1;

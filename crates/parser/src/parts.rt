@@ -1,18 +1,22 @@
 // Parts of rules and expressions that hold no expression themselves.
+// Text, token and store are three parameters, for the reason in lib.rt: the token differs at each call. Clauses that tie two or three
+// parameters stay clauses, as no type of one of them can hold them: `Ready`, `Onward`, `ReadyInline`, `ReadyContent`, `IsPart`, `string_of`,
+// `IsSet` and `start ≤ length source.now`. So do `IsToken` and `mark_of token ≡ 0x2E`, of the token alone: what is called with it
+// (`tokens::next`, `tokens::start`) takes every token, so a type of some tokens only would be turned back to a token at each call.
 ghost use Rattle.std.specs.Prelude.{◌≡◌, [], ◌∷◌, ◌+◌, ◌≤◌, ◌<◌, ◌^◌, length, Some};
 ghost use Rattle.lexer.specs.Promise.{IsPart};
-ghost use Rattle.tree.specs.Promise.{marker_of};
+ghost use Rattle.tree.specs.Promise.{marker_of, kind_number};
 ghost use Rattle.tree.specs.Stored.{name_branch};
 ghost use Rattle.notation.specs.Limits.{repeats};
-ghost use Rattle.notation.specs.Parser.{loop};
+ghost use Rattle.notation.specs.Parser.{loop, parse_identifier};
 ghost use Rattle.notation.specs.Expressions.{repeat_mark, marker_mark, parse_repeat};
 ghost use Rattle.tokens.specs.Promise.{stream, start_in, mark_of, string_of};
 ghost use Rattle.parser.specs.Storing.{lent_of, Kept, Stores, node, nodes_of};
-ghost use Rattle.parser.specs.Steps.{Onward, Ready, ParsesList};
+ghost use Rattle.parser.specs.Steps.{Onward, Ready, Parses, ParsesList};
 ghost use Rattle.parser.specs.Shapes.{IsToken, IsSet, repeated_of, marked_of, ends_by, stack_of, is_blank, empty_by, empty_first, sequence_shape, repeat_nodes, params_list, parse_params, ParsesHead, class_part, std_class, parse_any, parse_literal, parse_set, parse_marker, is_std, inline_bytes, ReadyInline, ParsesSpecializeHead, ReadyContent, StoresContent, Expresses, ExpressesItem};
 
 use crate::props;
-use crate::props::{Comma, Opened};
+use crate::props::Comma;
 use crate::store::Store;
 use error::{Cause, Stop};
 use lexer::{Part, Token};
@@ -31,6 +35,9 @@ pub enum Shape {
     Blank,
     Other,
 }
+
+// `Expressed`, `Headed`, `Arms` and `Items` are alike in shape only: beside the token each holds other things, whose names one generic
+// struct would lose.
 
 // An expression is stored: the token after it, its start and its shape.
 #[derive(Clone, Copy, Debug, PartialEq, Eq)]
@@ -56,12 +63,11 @@ pub struct Arms {
     pub empty: Option<usize>,
 }
 
-// An item of a sequence is stored, or the sequence ends.
+// An item of a sequence is stored: the token after it, or the expression. `props::Opened` has two ways too, but a token in each.
 #[derive(Clone, Copy, Debug, PartialEq, Eq)]
 pub enum Item {
     Marker(Token),
     Expression(Expressed),
-    End,
 }
 
 // The items of a sequence are stored: the token after them, how many markers and how many expressions, and the start and the shape of
@@ -77,37 +83,45 @@ pub struct Items {
 
 // ------------------------------------------------------------------ rules
 
+// A name alone, as a record of a kind. It is inlined: with a call here a text of params took 1.2 times as long.
+#[inline(always)]
+pub fn parse_name(
+    source: &[u8],
+    token: Token,
+    kind: NodeKind,
+    store: &mut Store,
+) -> Result<Token, Stop>
+    requires { Ready source.now token (lent_of store.old) }
+    ensures kept { Kept store.old store.new }
+    ensures parses { Parses (parse_identifier (stream source.now token)) (nodes_of (name_branch (kind_number kind))) source.now token
+        (lent_of store.old) (lent_of store.new) result }
+{
+    let (name, named) = tokens::parse_identifier(source, token)?;
+    store.put_named(kind, tokens::start(token), name.of(source), 0, 0);
+    Ok(named)
+}
+
+// Params up to their bracket. Like `references_list` of `declarations` it is one call: mark, separator and item differ.
 fn params_list(source: &[u8], token: Token, store: &mut Store) -> Result<(Token, usize), Stop>
     requires { Ready source.now token (lent_of store.old) }
     ensures kept { Kept store.old store.new }
     ensures parses { ParsesList (params_list (stream source.now token)) (nodes_of (name_branch 4)) source.now token 1
         (lent_of store.old) (lent_of store.new) result }
 {
-    let mut t = token;
-    let mut count = 0;
-    loop {
-        match props::opening(source, t, 0x3E, Comma::Must, count)? {
-            Opened::Closed(after) => return Ok((after, count)),
-            Opened::Item(item) => {
-                let (name, named) = tokens::parse_identifier(source, item)?;
-                store.put_named(NodeKind::Param, tokens::start(item), name.of(source), 0, 0);
-                t = named;
-                count += 1;
-            }
-        }
-    }
+    let param = |source: &[u8], token: Token, store: &mut Store| {
+        parse_name(source, token, NodeKind::Param, store)
+    };
+    props::until(source, token, '>' as u32, Comma::Must, param, store)
 }
 
+// `<` params `>`, or nothing.
 fn parse_params(source: &[u8], token: Token, store: &mut Store) -> Result<(Token, usize), Stop>
     requires { Ready source.now token (lent_of store.old) }
     ensures kept { Kept store.old store.new }
     ensures parses { ParsesList (parse_params (stream source.now token)) (nodes_of (name_branch 4)) source.now token 0
         (lent_of store.old) (lent_of store.new) result }
 {
-    match tokens::eat_punctuation(source, token, 0x3C)? {
-        Some(after) => params_list(source, after, store),
-        None => Ok((token, 0)),
-    }
+    props::optional(source, token, '<' as u32, params_list, store)
 }
 
 // The props and the params of a rule: `parse_rule` after the name, up to the brace.
@@ -338,13 +352,13 @@ pub fn ends_sequence(token: Token) -> bool
     }
 }
 
-// A marker, whose mark is the current token.
+// A marker, whose mark is the current token. It answers as `item` of lib.rt does, which passes the answer on.
 pub fn parse_marker(
     source: &[u8],
     token: Token,
     kind: ConflictMarkerKind,
     store: &mut Store,
-) -> Result<Item, Stop>
+) -> Result<Option<Item>, Stop>
     requires { Ready source.now token (lent_of store.old) × IsToken token }
     ensures kept { Kept store.old store.new }
     ensures parses { ExpressesItem (parse_marker (start_in token) (marker_of kind) (stream source.now token)) source.now token
@@ -353,7 +367,7 @@ pub fn parse_marker(
     let marked = tokens::next(source, token)?;
     let (name, after) = tokens::parse_identifier(source, marked)?;
     store.put_named(kind.kind(), tokens::start(token), name.of(source), 0, 0);
-    Ok(Item::Marker(after))
+    Ok(Some(Item::Marker(after)))
 }
 
 // The shape of a sequence with so many expressions that is not one expression alone.
@@ -370,20 +384,14 @@ pub fn sequence_shape(expressions: usize) -> Shape
 pub fn first_of(start: usize, shape: Shape, empty: Option<usize>) -> Option<usize>
     ensures { result ≡ empty_first start shape empty }
 {
-    if shape.is_blank() {
-        return Some(start);
-    }
-    empty
+    shape.is_blank().then_some(start).or(empty)
 }
 
 // The first empty arm: one of those before, or else an arm with this start and shape.
 pub fn first_empty(empty: Option<usize>, start: usize, shape: Shape) -> Option<usize>
     ensures { result ≡ empty_by empty start shape }
 {
-    if empty.is_none() && shape.is_blank() {
-        return Some(start);
-    }
-    empty
+    empty.or(shape.is_blank().then_some(start))
 }
 
 // After a keyword: props or none, and `<`.
@@ -398,11 +406,12 @@ pub fn specialize_head(
 {
     let keyword = tokens::next(source, token)?;
     let (propped, count) = props::parse_props(source, keyword, store)?;
-    let opened = tokens::expect_punctuation(source, propped, 0x3C)?;
+    let opened = tokens::expect_punctuation(source, propped, '<' as u32)?;
     Ok((opened, count))
 }
 
-// The content where there is one part: a literal is stored again. Its start is p, and the whole starts at `start`.
+// The content where there is one part: a literal is stored again. Its start is p, and the whole starts at `start`, a place that a refusal
+// names and at which nothing is read.
 pub fn parse_specialize_content(
     source: &[u8],
     start: usize,
@@ -429,10 +438,7 @@ pub fn is_std(source: &[u8], name: Part, token: Token) -> bool
     requires { IsPart source.now name }
     ensures { result ≡ is_std source.now name token }
 {
-    if tokens::mark(token) != 0x2E {
-        return false;
-    }
-    lexer::words::spells(name.of(source), b"std")
+    tokens::mark(token) == '.' as u32 && lexer::words::spells(name.of(source), b"std")
 }
 
 // The name of an inline rule.

@@ -1,11 +1,16 @@
 // Lists and props: `parse_props`, `parse_prop`.
+// Text, token and store are three parameters, for the reason in lib.rt: the token differs at each call. `Ready` ties the three, and `LiesIn`,
+// `PartValue`, `PropName` and `string_of` tie two or three, so they are clauses: no type of one parameter can hold them.
+// So is `mark_of token ≡ 0x7B`, of the token alone: `tokens::next` takes every token, so a type of some tokens only would be turned back to a
+// token at each call.
 ghost use Rattle.std.specs.Prelude.{◌≡◌, [], ◌<◌, length, Some};
 ghost use Rattle.tree.specs.Stored.{part_branch, prop_branch};
 ghost use Rattle.notation.specs.Expressions.{parse_part, parse_prop, parse_props};
-ghost use Rattle.notation.specs.Parser.{loop};
+ghost use Rattle.notation.specs.Parser.{loop, eat, until};
 ghost use Rattle.tokens.specs.Promise.{stream, mark_of, string_of, LiesIn};
 ghost use Rattle.parser.specs.Storing.{lent_of, Kept, nodes_of};
 ghost use Rattle.parser.specs.Steps.{Ready, Parses, ParsesTurn, ParsesList, between_by, comma_step, step_by, separator as separator_d, Separates, Opens, PartValue, parse_value, PropName, props_list};
+ghost use Rattle.parser.specs.Lists.{Listed, Marked, MayRead, ReadsItems, ReadsBehind, as_read, optional};
 
 use crate::store::Store;
 use error::Stop;
@@ -19,7 +24,7 @@ pub enum Opened {
     Closed(Token),
 }
 
-// What stands between the items of a list: a comma that must be there, one that may, nothing.
+// What stands between the items of a list: a comma that must be there, one that may, nothing. Three ways, so no `Option`.
 #[derive(Clone, Copy, Debug, PartialEq, Eq)]
 pub enum Comma {
     Must,
@@ -33,9 +38,9 @@ pub fn between(source: &[u8], token: Token, comma: Comma) -> Result<Token, Stop>
     ensures { Separates source.now token (between_by comma) (comma_step comma) result }
 {
     match comma {
-        Comma::Must => tokens::expect_punctuation(source, token, 0x2C),
+        Comma::Must => tokens::expect_punctuation(source, token, ',' as u32),
         Comma::May => {
-            let after = tokens::eat_punctuation(source, token, 0x2C)?;
+            let after = tokens::eat_punctuation(source, token, ',' as u32)?;
             Ok(after.unwrap_or(token))
         }
         Comma::No => Ok(token),
@@ -69,6 +74,56 @@ pub fn opening(
     }
     let item = separator(source, token, comma, count)?;
     Ok(Opened::Item(item))
+}
+
+// Items up to the mark that closes their list, each read by a function that is passed: the token behind the mark, and how many they are.
+pub fn until<F: Fn(&[u8], Token, &mut Store) -> Result<Token, Stop>>(
+    source: &[u8],
+    token: Token,
+    close: u32,
+    comma: Comma,
+    item: F,
+    store: &mut Store,
+) -> Result<(Token, usize), Stop>
+    requires ready { Ready source.now token (lent_of store.old) }
+    requires calls { MayRead source.now (F.pre item) }
+    requires reads { (l : Listed) × ReadsItems source.now close (F.post item) l }
+    ensures kept { Kept store.old store.new }
+    ensures parses { (l : Listed) → ReadsItems source.now close (F.post item) l → ParsesList (until (eat l.mark) (between_by comma) (λ _. l.item) (stream source.now token)) as_read source.now token 1
+        (lent_of store.old) (lent_of store.new) result }
+{
+    let mut t = token;
+    let mut count = 0;
+    loop {
+        match opening(source, t, close, comma, count)? {
+            Opened::Closed(after) => return Ok((after, count)),
+            Opened::Item(next) => {
+                t = item(source, next, store)?;
+                count += 1;
+            }
+        }
+    }
+}
+
+// What a function that is passed reads behind a mark, or nothing where the mark does not follow. `args` of lib.rt says why it matches itself.
+pub fn optional<F: Fn(&[u8], Token, &mut Store) -> Result<(Token, usize), Stop>>(
+    source: &[u8],
+    token: Token,
+    mark: u32,
+    inside: F,
+    store: &mut Store,
+) -> Result<(Token, usize), Stop>
+    requires ready { Ready source.now token (lent_of store.old) }
+    requires calls { MayRead source.now (F.pre inside) }
+    requires reads { (l : Marked) × ReadsBehind source.now mark (F.post inside) l }
+    ensures kept { Kept store.old store.new }
+    ensures parses { (l : Marked) → ReadsBehind source.now mark (F.post inside) l → ParsesList (optional l.mark l.inside (stream source.now token)) as_read source.now token 0
+        (lent_of store.old) (lent_of store.new) result }
+{
+    match tokens::eat_punctuation(source, token, mark)? {
+        Some(after) => inside(source, after, store),
+        None => Ok((token, 0)),
+    }
 }
 
 // A part with these bytes for its text: the token is taken.
@@ -114,7 +169,7 @@ fn part_braced(source: &[u8], token: Token, store: &mut Store) -> Result<Option<
 {
     let opened = tokens::next(source, token)?;
     let (name, named) = tokens::parse_identifier(source, opened)?;
-    let closed = tokens::expect_punctuation(source, named, 0x7D)?;
+    let closed = tokens::expect_punctuation(source, named, '}' as u32)?;
     store.put_named(
         NodeKind::PartName,
         tokens::start(token),
@@ -171,10 +226,7 @@ fn parse_value(source: &[u8], token: Token, store: &mut Store) -> Result<(Token,
     ensures parses { ParsesList (parse_value (stream source.now token)) (nodes_of part_branch) source.now token 0
         (lent_of store.old) (lent_of store.new) result }
 {
-    match tokens::eat_punctuation(source, token, 0x3D)? {
-        Some(after) => parse_parts(source, after, store),
-        None => Ok((token, 0)),
-    }
+    optional(source, token, '=' as u32, parse_parts, store)
 }
 
 // A prop whose name is a part of the current token.
@@ -224,17 +276,7 @@ fn props_list(source: &[u8], token: Token, store: &mut Store) -> Result<(Token, 
     ensures parses { ParsesList (props_list (stream source.now token)) (nodes_of prop_branch) source.now token 1
         (lent_of store.old) (lent_of store.new) result }
 {
-    let mut t = token;
-    let mut count = 0;
-    loop {
-        match opening(source, t, 0x5D, Comma::Must, count)? {
-            Opened::Closed(after) => return Ok((after, count)),
-            Opened::Item(item) => {
-                t = parse_prop(source, item, store)?;
-                count += 1;
-            }
-        }
-    }
+    until(source, token, ']' as u32, Comma::Must, parse_prop, store)
 }
 
 // `[` props `]`, or nothing.
@@ -244,8 +286,5 @@ pub fn parse_props(source: &[u8], token: Token, store: &mut Store) -> Result<(To
     ensures parses { ParsesList (parse_props (stream source.now token)) (nodes_of prop_branch) source.now token 0
         (lent_of store.old) (lent_of store.new) result }
 {
-    match tokens::eat_punctuation(source, token, 0x5B)? {
-        Some(after) => props_list(source, after, store),
-        None => Ok((token, 0)),
-    }
+    optional(source, token, '[' as u32, props_list, store)
 }

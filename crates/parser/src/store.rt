@@ -1,4 +1,6 @@
 // Storing nodes. A record or a text that does not fit is counted and not stored, so a run over empty parts measures.
+// Words and a place in them stay two parameters: the place may lie past the end of the words, where no slice begins, and `tree::put` takes
+// the two likewise. Kind, start and children of a node stay three: a struct of them would be put together at each call and taken apart here.
 ghost use Rattle.std.specs.Prelude.{◌≡◌, [], ◌∷◌, ◌+◌, ◌*◌, ◌≤◌, ◌<◌, ◌^◌, length, drop};
 ghost use Rattle.std.proofs.Math.Option.{none};
 ghost use Rattle.characters.specs.Utf8.{codes, encode_all};
@@ -16,7 +18,8 @@ use tree::{NodeKind, Record};
 // How many words a record has.
 const WIDTH: usize = 7;
 
-// The words and bytes that are lent for a tree, and how many of each are taken.
+// The words and bytes that are lent for a tree, and how many of each are taken. A function that is passed a `&mut Store` could put other
+// slices in it, and no type of a field forbids that: so `Kept`, that they are the same slices, is a clause.
 #[derive(Drop)]
 pub struct Store<'a> {
     pub records: &'a mut [u32],
@@ -66,7 +69,7 @@ impl<'a> Store<'a> {
         self.x += size;
     }
 
-    // A node without a text.
+    // A node without a text. It is no call of `put_record` with size 0, which asks a bound of `x`: this asks none.
     pub fn put_plain(&mut self, kind: NodeKind, start: usize, value: u32, children: usize)
         requires { (self.old.n + 7 < 2 ^ 64) × (start < 2 ^ 32) × (children < 2 ^ 32) }
         ensures kept { Kept self.old self.new }
@@ -117,7 +120,7 @@ impl<'a> Store<'a> {
         lexer::escapes::decode_string(body, &mut self.texts[self.x..])
     }
 
-    // A node with the value of a string for its text.
+    // A node with the value of a string for its text; `children` counts nodes, and no bytes of `body`.
     pub fn put_string(&mut self, kind: NodeKind, start: usize, body: &[u8], children: usize)
         requires { (self.old.n + 7 < 2 ^ 64) × (start < 2 ^ 32) × (children < 2 ^ 32) × (self.old.x + length body.now < 2 ^ 32) }
         ensures kept { Kept self.old self.new }
@@ -153,7 +156,8 @@ fn place(x: usize, size: usize) -> usize
     x
 }
 
-// The spans in ascending order behind the first n words, two words each.
+// The spans in ascending order behind the first n words, two words each. The rest of a slice or nothing is taken by an `if` here and in
+// `put_value`: of `get_mut(n..)` no clause says what the slice holds once the rest is written.
 fn read_spans(body: &[u8], records: &mut [u32], n: usize) -> Result<usize, Cause>
     ensures checks { Checks (spans (codes body.now)) result }
     ensures words { fault (spans (codes body.now)) ≡ none → records.new ≡ written records.old n (words_of (sorted (spans (codes body.now)))) }
@@ -165,7 +169,8 @@ fn read_spans(body: &[u8], records: &mut [u32], n: usize) -> Result<usize, Cause
     lexer::sets::parse_set_ranges(body, &mut records[n..])
 }
 
-// Spans of two words each, behind the first n words, to records in their place, the last first, where these fit.
+// Spans of two words each, behind the first n words, to records in their place, the last first, where these fit. `i` counts since it gives
+// both the place that is read and the place that is written, in the same words.
 fn spread(records: &mut [u32], n: usize, start: u32, count: usize)
     requires { n + 7 * count < 2 ^ 64 }
     ensures { records.new ≡ written records.old n (span_words start (spans_in count (drop n records.old))) }

@@ -9,6 +9,7 @@ pub mod DirectiveLaws
 pub mod Membering
 pub mod BlockGathered
 pub mod GrammarGroups
+pub mod WordLaws
 pub mod AheadLaws
 pub mod MemberAhead
 pub mod WholeLaws

@@ -13,30 +13,29 @@ use Rattle.std.specs.Option.{is_some}
 use Rattle.error.specs.declared.Stop.{Stop}
 use lib.Dec.{eqb}
 use lib.ListN.{length}
-use Rattle.basics.specs.Basics.{if◌then◌otherwise◌, letters, spells, picked}
-use Rattle.error.specs.Causes.{unexpected_token, top_without_name, second_tokens, second_precedence, second_context}
+use Rattle.basics.specs.Basics.{if◌then◌otherwise◌, letters, picked}
+use Rattle.error.specs.Causes.{top_without_name, second_context}
 use Rattle.lexer.specs.Tokens.{Tokens}
 use Rattle.lexer.specs.Promise.{part_of, is_plain}
 use Rattle.tree.specs.Records.{Node, nodes}
 use Rattle.tree.specs.Stored.{declaration_branch, rule_branch, external_prop_branch, name_branch}
-use Rattle.tree.specs.Syntax.{Identifier, Expression, SpecializeKind, RuleDeclaration, LocalTokenDeclaration, ExternalPropDeclaration, Declaration, declaration_kind, has_kind}
-use Rattle.notation.specs.Parser.{Answer, read, refused, Parser, and_then, ◌>>=◌, ◌>>◌, pure, refuse, choose, here, kind, name_in, next, refuse_here, says, expect_name, parse_identifier}
+use Rattle.tree.specs.Syntax.{Identifier, Expression, SpecializeKind, RuleDeclaration, ExternalPropDeclaration, Declaration, declaration_kind, has_kind}
+use Rattle.notation.specs.Parser.{Answer, read, refused, Parser, and_then, ◌>>=◌, pure, refuse, choose, here, kind, name_in, next, refuse_here, says, parse_identifier}
 use Rattle.notation.specs.Expressions.{parse_braced_expression, outermost}
 use Rattle.notation.specs.Members.{Member, declaration, dialects, external_prop, detect_delim}
-use Rattle.notation.specs.Declarations.{names, is_top, seen, top_by, parse_rule, parse_source, declares, parse_tokens, parse_local_tokens, parse_context_declaration, parse_external_token_set, parse_external_tokens, parse_external_specializer, parse_external_prop_source, parse_external_prop, external_by, parse_external_declaration, parse_precedence, parse_skip_declaration, parse_directive, declaration_by, parse_declaration}
+use Rattle.notation.specs.Declarations.{names, is_top, seen, top_by, parse_rule, parse_source, declares, parse_context_declaration, parse_external_token_set, parse_external_tokens, parse_external_specializer, parse_external_prop_source, parse_external_prop, external_by, parse_external_declaration, parse_directive, declaration_by, parse_declaration}
 use Rattle.tokens.specs.Promise.{stream, start_in, end_in, name_of, at_of, text_in, LiesIn, Says}
 use Rattle.parser.specs.Storing.{Lent, lent, flat, nodes_of}
 use Rattle.parser.specs.Steps.{placed, Onward, Lays, Ready, Gives, Parses, Lists}
 use Rattle.parser.specs.Shapes.{IsToken}
 use Rattle.lexer.specs.declared.Token.{Token}
-use Rattle.lexer.specs.declared.Token.TheVariants.{Of, Eof}
 use Rattle.lexer.specs.declared.Part.{Part}
 use Rattle.tokens.proofs.Stream.{start-of, name-of, at-of}
 use Rattle.parser.proofs.Onward.{start_small, next-onward, onward_then, onward-least}
 use Rattle.parser.proofs.Lists.{flat-none, lays-none, lays-between}
 use Rattle.parser.proofs.Ready.{ready_step}
 use Rattle.declarations.specs.Sources.{IdSource, from_source, from_branch}
-use Rattle.reader.specs.Directives.{past, top_at, local_at, prop_at, dialects_at, member_kind, member_branches, member_top, SeenIs, Declares, DeclaresTo}
+use Rattle.reader.specs.Directives.{past, top_at, prop_at, dialects_at, member_kind, member_branches, member_top, SeenIs, Declares, DeclaresTo}
 use Rattle.reader.specs.declared.directives.Seen.{Seen}
 use Rattle.reader.specs.declared.directives.Declared.{Declared}
 
@@ -352,49 +351,6 @@ module _ (p : ℕ) where
 pub says-word : (w : Quoted) {s : List ℕ} {part : Option Part} {b : Bool} → is_plain (letters w) ≡ true → Says s part (letters w) b → {whole : Option Part} → part ≡ whole → {c : Bool} → b ≡ c → says w (text_in s whole) ≡ c
 says-word w p h e f = rw (← e, ← f) (h.said w refl p)
 
-pub said-token : (w : Quoted) (s : List ℕ) (t : Token) → says w (text_in s (name_of t)) ≡ true → IsToken t
-said-token w s (Of k start end) e = tt
-said-token w s (Eof p) e = absurd (let z : ◌≡◌ {A = ℕ} 0 1 = cc in omega arith)
-
-module _ (p : ℕ) (s : List ℕ) (t : Token) where
-  abbrev Named : Quoted → Bool → Type 0
-  Named w b = says w (text_in s (name_of t)) ≡ b
-
-  abbrev external : Answer ℕ (Member ℕ)
-  external = parse_external_declaration p (stream s t)
-
-  external-is : external ≡ external_by p (text_in s (name_of t)) (stream s t)
-  unfolding parse_external_declaration ◌>>=◌ and_then kind
-  external-is = rw (name-of s t)
-
-  pub external-tokens : Named "tokens" true → external ≡ past (declares (parse_external_tokens p)) (stream s t)
-  unfolding external_by
-  external-tokens e = external-is ∙ rw (external_by, e)
-
-  module _ (a : Named "tokens" false) where
-    pub external-prop : Named "prop" true → external ≡ past (prop_at p) (stream s t)
-    unfolding external_by
-    external-prop e = external-is ∙ rw (external_by, a, e)
-
-    module _ (b : Named "prop" false) where
-      pub external-extend : Named "extend" true → external ≡ past (declares (parse_external_specializer p SpecializeKind.extend)) (stream s t)
-      unfolding external_by
-      external-extend e = external-is ∙ rw (external_by, a, b, e)
-
-      module _ (c : Named "extend" false) where
-        pub external-specialize : Named "specialize" true → external ≡ past (declares (parse_external_specializer p SpecializeKind.specialize)) (stream s t)
-        unfolding external_by
-        external-specialize e = external-is ∙ rw (external_by, a, b, c, e)
-
-        module _ (d : Named "specialize" false) where
-          pub external-prop-source : Named "propSource" true → external ≡ past (declares (parse_external_prop_source p)) (stream s t)
-          unfolding external_by
-          external-prop-source e = external-is ∙ rw (external_by, a, b, c, d, e)
-
-          pub external-other : Named "propSource" false → {q : ℕ} → q ≡ start_in t → external ≡ refused unexpected_token q
-          unfolding external_by refuse_here
-          external-other e q = external-is ∙ rw (external_by, a, b, c, d, e, refuse_here, start-of s t, q)
-
 -- no list of dialects
 abbrev IsOther : Member ℕ → Type 0
 IsOther m = (ns : List (Identifier ℕ)) → m ≡ dialects ns → ⊥
@@ -497,79 +453,3 @@ module _ (s : List ℕ) (t : Token) (before : List (Member ℕ)) where
   pub declaration-directive : {a : Part} → at_of t ≡ Some a → parse_declaration before (stream s t) ≡ parse_directive (start_in t) before (part_of s a) (stream s t)
   unfolding parse_declaration here kind declaration_by ◌>>=◌ and_then
   declaration-directive e = rw (parse_declaration, start-of s t, at-of s t, e)
-
--- `@local tokens`
-local_then : (p : ℕ) (ts : Tokens ℕ) {B : Type 0} (f : LocalTokenDeclaration ℕ → Parser ℕ B) → past (expect_name "tokens" >> (parse_local_tokens p >>= f)) ts ≡ and_then (past (local_at p) ts) f
-unfolding ◌>>=◌ and_then
-local_then p ts {B} f = go (next ts)
-  where
-    behind : (a : Answer ℕ (Unit {0})) → and_then a (λ _. parse_local_tokens p >>= f) ≡ and_then (and_then a (λ _. parse_local_tokens p)) f
-    behind (read x us) = refl
-    behind (refused c q) = refl
-
-    go : (a : Answer ℕ (Unit {0})) → and_then a (λ _. expect_name "tokens" >> (parse_local_tokens p >>= f)) ≡ and_then (and_then a (λ _. local_at p)) f
-    go (read x us) = behind (expect_name "tokens" us)
-    go (refused c q) = refl
-
-module _ (p : ℕ) (x : List ℕ) (s : List ℕ) (t : Token) (before : List (Member ℕ)) where
-  abbrev Spelt : Quoted → Bool → Type 0
-  Spelt w b = spells w x ≡ b
-
-  abbrev directive : Answer ℕ (Member ℕ)
-  directive = parse_directive p before x (stream s t)
-
-  pub directive-top : Spelt "top" true → directive ≡ and_then (past top_at (stream s t)) (λ d. pure (declaration d))
-  unfolding parse_directive
-  directive-top e = rw (parse_directive, e) (past-then top_at (stream s t) _)
-
-  module _ (a : Spelt "top" false) where
-    pub tokens-second : Spelt "tokens" true → seen 8 before ≡ true → {q : ℕ} → q ≡ start_in t → directive ≡ refused second_tokens q
-    unfolding parse_directive choose refuse_here
-    tokens-second e f q = rw (parse_directive, a, e, f, choose, refuse_here, start-of s t, q)
-
-    pub tokens-first : Spelt "tokens" true → seen 8 before ≡ false → directive ≡ and_then (parse_tokens (stream s t)) (λ d. pure (declaration (Declaration.tokens d)))
-    unfolding parse_directive choose ◌>>=◌
-    tokens-first e f = rw (parse_directive, a, e, f, choose)
-
-    module _ (b : Spelt "tokens" false) where
-      pub directive_local : Spelt "local" true → directive ≡ and_then (past (local_at p) (stream s t)) (λ d. pure (declaration (Declaration.local_tokens d)))
-      unfolding parse_directive
-      directive_local e = rw (parse_directive, a, b, e) (local_then p (stream s t) _)
-
-      module _ (c : Spelt "local" false) where
-        pub directive-context : Spelt "context" true → directive ≡ past (declares (parse_context_declaration p before)) (stream s t)
-        unfolding parse_directive
-        directive-context e = rw (parse_directive, a, b, c, e)
-
-        module _ (d : Spelt "context" false) where
-          pub directive-external : Spelt "external" true → directive ≡ past (parse_external_declaration p) (stream s t)
-          unfolding parse_directive
-          directive-external e = rw (parse_directive, a, b, c, d, e)
-
-          module _ (f : Spelt "external" false) where
-            pub directive-dialects : Spelt "dialects" true → directive ≡ past dialects_at (stream s t)
-            unfolding parse_directive
-            directive-dialects e = rw (parse_directive, a, b, c, d, f, e)
-
-            module _ (g : Spelt "dialects" false) where
-              pub precedence-second : Spelt "precedence" true → seen 20 before ≡ true → {q : ℕ} → q ≡ start_in t → directive ≡ refused second_precedence q
-              unfolding parse_directive choose refuse_here
-              precedence-second e z q = rw (parse_directive, a, b, c, d, f, g, e, z, choose, refuse_here, start-of s t, q)
-
-              pub precedence-first : Spelt "precedence" true → seen 20 before ≡ false → directive ≡ and_then (parse_precedence (stream s t)) (λ y. pure (declaration (Declaration.precedences y)))
-              unfolding parse_directive choose ◌>>=◌
-              precedence-first e z = rw (parse_directive, a, b, c, d, f, g, e, z, choose)
-
-              module _ (h : Spelt "precedence" false) where
-                pub directive_detect : Spelt "detectDelim" true → directive ≡ past (pure detect_delim) (stream s t)
-                unfolding parse_directive
-                directive_detect e = rw (parse_directive, a, b, c, d, f, g, h, e)
-
-                module _ (i : Spelt "detectDelim" false) where
-                  pub directive-skip : Spelt "skip" true → directive ≡ past (declares (parse_skip_declaration p before)) (stream s t)
-                  unfolding parse_directive
-                  directive-skip e = rw (parse_directive, a, b, c, d, f, g, h, i, e)
-
-                  pub directive-other : Spelt "skip" false → {q : ℕ} → q ≡ start_in t → directive ≡ refused unexpected_token q
-                  unfolding parse_directive refuse_here
-                  directive-other e q = rw (parse_directive, a, b, c, d, f, g, h, i, e, refuse_here, start-of s t, q)

@@ -28,7 +28,6 @@ use Rattle.reader.specs.declared.blocks.Extent.{Extent}
 use Rattle.reader.specs.declared.directives.Declared.{Declared}
 use Rattle.reader.specs.declared.whole.Noted.{Noted}
 use Rattle.reader.specs.declared.whole.Passed.{Passed}
-use Rattle.reader.specs.declared.whole.Stored.{Stored}
 
 -- the declarations up to the end
 abbrev pub members : Parser ℕ (List (Member ℕ))
@@ -214,6 +213,6 @@ pub data Stopped (s ws ts : List ℕ) (cause place : ℕ) : Type 0 where
   by_bytes : NoBytes s ws ts cause place → Stopped s ws ts cause place
 
 -- what a text, and words and bytes that are lent, give: the answer, and what they hold afterwards
-abbrev pub Reads : (s words texts words_after texts_after : List ℕ) → Result Stored Stop → Type 0
+abbrev pub Reads : (s words texts words_after texts_after : List ℕ) → Result Extent Stop → Type 0
 Reads s ws ts vs us (Ok r) = Read s ws ts vs us r.words r.bytes
 Reads s ws ts vs us (Err e) = Stopped s ws ts (cause_number e.cause) e.place × (vs ≡ ws) × (us ≡ ts)

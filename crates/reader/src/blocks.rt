@@ -1,4 +1,5 @@
-// Members of blocks, stored in groups: `@tokens`, `@local tokens`, external token sets, scoped skips.
+// Members of blocks, stored in groups: `@tokens`, `@local tokens`, external token sets, scoped skips. The head of
+// directives.rt says why text, token and store are three parameters; `block`, `free` and `places` differ from call to call too.
 ghost use Rattle.std.specs.Prelude.{◌+◌, ◌<◌, ◌^◌, ◌≡◌};
 ghost use Rattle.tokens.specs.Promise.{stream, LiesIn};
 ghost use Rattle.parser.specs.Storing.{lent_of, Kept};
@@ -130,7 +131,8 @@ fn skip_member(source: &[u8], token: Token, free: bool, store: &mut Store) -> Re
     Ok(one(after, NodeKind::TopRule))
 }
 
-// A member of a block. `free`: an `@else` still makes a fallback.
+// A member of a block. `free`: an `@else` still makes a fallback. The match is the plain form: a closure for each block would be chosen by
+// the same match, and its contract would have to say which block it is of.
 fn member(
     source: &[u8],
     block: Block,
@@ -154,7 +156,7 @@ fn member(
     }
 }
 
-// What stands between two members.
+// What stands between two members. A table, no conversion: several blocks have the same comma.
 fn comma(block: Block) -> Comma
     ensures { result ≡ comma_of block }
 {
@@ -164,7 +166,8 @@ fn comma(block: Block) -> Comma
     }
 }
 
-// The group of a member of a block, from its first tokens. `free`: an `@else` still makes a fallback.
+// The group of a member of a block, from its first tokens: a place in the list of the block's groups (`kinds_of`). It asks of the first tokens
+// what the functions above ask, before anything is stored. `free`: an `@else` still makes a fallback.
 fn group_ahead(source: &[u8], block: Block, token: Token, free: bool) -> usize
     requires { LiesIn source.now 0 token }
     ensures { result ≡ place_in (kinds_of block) (member_ahead block free (stream source.now token)) }
@@ -203,7 +206,8 @@ fn group_ahead(source: &[u8], block: Block, token: Token, free: bool) -> usize
     }
 }
 
-// So many words and bytes: where a group goes on, or how much of each it takes.
+// So many words and bytes: where a group goes on, or how much of each it, or a whole tree, takes. Counts, where the fields of `lexer::Part`
+// are places in a text. A store has the two as its fields `n` and `x`, which its contracts name.
 #[derive(Clone, Copy, Debug, PartialEq, Eq)]
 pub struct Extent {
     pub words: usize,
@@ -214,7 +218,8 @@ impl Extent {
     pub const NONE: Extent = Extent { words: 0, bytes: 0 };
 }
 
-// A member, stored where its group goes on, and how much it takes; the place of the group moves on.
+// A member, stored where its group goes on, and how much it takes; the place of the group moves on. Like `declaration_placed` but for what is
+// called and how the group is found: handed in as a function, its contract would have to be that of either.
 fn member_placed(
     source: &[u8],
     block: Block,
@@ -272,7 +277,7 @@ fn members_pass(
     let mut count = 0;
     let mut free = true;
     loop {
-        match props::opening(source, t, 0x7D, comma(block), turns)? {
+        match props::opening(source, t, '}' as u32, comma(block), turns)? {
             Opened::Closed(after) => {
                 return Ok(Members {
                     token: after,
@@ -293,8 +298,7 @@ fn members_pass(
     }
 }
 
-// Sizes become places: each begins where the one before it ends, and the first at `from`. A proof knows what an index wrote, and not what
-// `iter_mut` did.
+// Sizes become places: each begins where the one before it ends, and the first at `from`.
 pub fn line_up(sizes: &mut [Extent], from: Extent)
     requires { (from.words + sum (words_in sizes.old) < 2 ^ 64) × (from.bytes + sum (bytes_in sizes.old) < 2 ^ 64) }
     ensures { (words_in sizes.new ≡ lined_up from.words (words_in sizes.old)) × (bytes_in sizes.new ≡ lined_up from.bytes (bytes_in sizes.old)) }
@@ -303,11 +307,11 @@ pub fn line_up(sizes: &mut [Extent], from: Extent)
         mut words,
         mut bytes,
     } = from;
-    for i in 0..sizes.len() {
-        let size = sizes[i];
-        sizes[i] = Extent { words, bytes };
+    for size in sizes.iter_mut() {
+        let place = Extent { words, bytes };
         words += size.words;
         bytes += size.bytes;
+        *size = place;
     }
 }
 
@@ -354,7 +358,7 @@ pub fn parse_block(
     ensures gathers { GathersTo (block_d (between_by (comma_of block)) (member_of block) (stream source.now token)) (groups_of (kind_of block) (branches_of block) (kinds_of block)) source.now token 2
         (lent_of store.old) (lent_of store.new) result }
 {
-    let opened = tokens::expect_punctuation(source, token, 0x7B)?;
+    let opened = tokens::expect_punctuation(source, token, '{' as u32)?;
     let mut groups = [Extent::NONE; GROUPS];
     parse_members(source, block, opened, &mut groups, store)
 }

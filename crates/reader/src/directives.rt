@@ -1,4 +1,10 @@
 // Declarations that hold a block: `parse_tokens`, `parse_local_tokens`, `parse_external_tokens`, `parse_external_specializer`, `@skip`.
+//
+// Text, token and store are three parameters. The token differs at each call: a struct of the three would be made anew for each, and what is
+// asked of them together (`Ready`, `Roomy`) proved there as it is now; changed in place, each contract would say besides that the text is
+// the same. `seen`, `start` and `block` differ from call to call in the same way. `start ≤ length source.now` and `LiesIn` tie a place or
+// a token to the text, and `length source.now ≤ 0x10000` bounds a slice: no type of one parameter says these. `IsToken` is what the caller
+// has just seen: a type for tokens other than the end would be made a `Token` again for `next` and `start`.
 ghost use Rattle.std.specs.Prelude.{◌≡◌, ◌≤◌, length};
 ghost use Rattle.tree.specs.Promise.{kind_number, specialize_of};
 ghost use Rattle.tree.specs.Stored.{declaration_branch};
@@ -19,7 +25,7 @@ use parser::LEVELS;
 use parser::store::Store;
 use tree::{NodeKind, SpecializeKind};
 
-// Which kinds were seen, of those of which there is at most one.
+// Which kinds were seen, of those of which there is at most one: four flags, each set by itself.
 #[derive(Clone, Copy, Debug, PartialEq, Eq)]
 pub struct Seen {
     pub tokens: bool,
@@ -28,7 +34,11 @@ pub struct Seen {
     pub skip: bool,
 }
 
-// A declaration is stored: the token after it, its kind, and whether it holds a top rule.
+// `Declared`, `Joined` and `Members` have a token and two fields each, and differ in these: kind and top rule, branches and kind, size and
+// branches.
+
+// A declaration is stored: the token after it, its kind, and whether it holds a top rule (a scoped skip may or may not, so that the kind
+// does not tell).
 #[derive(Clone, Copy, Debug, PartialEq, Eq)]
 pub struct Declared {
     pub token: Token,
@@ -76,7 +86,7 @@ fn parse_local_tokens(
     Ok(after)
 }
 
-// `@local tokens`, at its keyword.
+// `@local tokens`, at its keyword. Like `parse_external` but for what is called: two calls, and a parameter for the second would be no shorter.
 pub fn parse_local(source: &[u8], token: Token, store: &mut Store) -> Result<Token, Stop>
     requires { Roomy source.now token (lent_of store.old) × IsToken token }
     ensures kept { Kept store.old store.new }
@@ -112,7 +122,8 @@ fn parse_external_set(
     Ok(after)
 }
 
-// `@external tokens`, at `tokens`; it starts at `start`.
+// `@external tokens`, at `tokens`; it starts at `start`. Like `parse_prop_source`: a word is passed, and a function called, but another one
+// with other parameters.
 pub fn parse_external_tokens(
     source: &[u8],
     token: Token,
@@ -175,7 +186,7 @@ fn parse_scoped(
     ensures kept { Kept store.old store.new }
     ensures scopes { Scopes start source.now token (lent_of store.old) (lent_of store.new) result }
 {
-    let opened = tokens::expect_punctuation(source, token, 0x7B)?;
+    let opened = tokens::expect_punctuation(source, token, '{' as u32)?;
     let mut groups = [Extent::NONE; GROUPS];
     let (after, count) = blocks::parse_members(source, Block::Skip, opened, &mut groups, store)?;
     store.put_plain(NodeKind::ScopedSkip, start, 0, 1 + count);
@@ -196,7 +207,7 @@ pub fn parse_skip(
 {
     let keyword = tokens::next(source, token)?;
     let inside = parser::braced(source, LEVELS, keyword, store)?;
-    if tokens::mark(inside.token) == 0x7B {
+    if tokens::mark(inside.token) == '{' as u32 {
         return parse_scoped(source, inside.token, inside.start, store);
     }
     if seen.skip {

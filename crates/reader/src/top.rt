@@ -1,4 +1,5 @@
-// Declarations at top level: `parse_declaration`, `parse_external_declaration`.
+// Declarations at top level: `parse_declaration`, `parse_external_declaration`. The head of directives.rt
+// says why text, token and store are three parameters.
 ghost use Rattle.std.specs.Prelude.{◌≡◌, ◌≤◌, length, Some};
 ghost use Rattle.tree.specs.Stored.{declaration_branch};
 ghost use Rattle.notation.specs.Parser.{pure};
@@ -12,13 +13,14 @@ ghost use Rattle.parser.specs.Shapes.{IsToken};
 ghost use Rattle.reader.specs.Blocks.{Roomy};
 ghost use Rattle.reader.specs.Directives.{past, top_at, prop_at, dialects_at, DeclaresTo};
 
-use crate::directives;
 use crate::directives::{Declared, Seen};
+use crate::words::{Directive, External};
+use crate::{directives, words};
 use declarations::{blocks, externals, rules};
 use error::{Cause, Stop};
 use lexer::{Part, Token};
 use parser::store::Store;
-use tree::{NodeKind, SpecializeKind};
+use tree::NodeKind;
 
 // `@top`, at its keyword.
 fn parse_top(source: &[u8], token: Token, store: &mut Store) -> Result<Token, Stop>
@@ -79,7 +81,8 @@ fn parse_prop(
     Ok(directives::of_kind(after, NodeKind::ExternalProp, false))
 }
 
-// `@external propSource`, at `propSource`; it starts at `start`.
+// `@external propSource`, at `propSource`; it starts at `start`. Like `parse_external_tokens`, but for the
+// function that is called.
 fn parse_prop_source(
     source: &[u8],
     token: Token,
@@ -108,42 +111,25 @@ fn parse_external_declaration(
     ensures declares { DeclaresTo (λ _. parse_external_declaration start (stream source.now token)) seen source.now token
         (lent_of store.old) (lent_of store.new) result }
 {
-    let name = tokens::name(token);
-    if tokens::says(source, name, b"tokens") {
-        let after = directives::parse_external_tokens(source, token, start, store)?;
-        return Ok(directives::of_kind(after, NodeKind::ExternalTokens, false));
+    match words::which_external(source, tokens::name(token)) {
+        Some(External::Tokens) => {
+            let after = directives::parse_external_tokens(source, token, start, store)?;
+            Ok(directives::of_kind(after, NodeKind::ExternalTokens, false))
+        }
+        Some(External::Prop) => parse_prop(source, token, seen, start, store),
+        Some(External::Specializer(kind)) => {
+            let after = directives::parse_external_specializer(source, token, start, kind, store)?;
+            Ok(directives::of_kind(after, NodeKind::ExternalSpecializer, false))
+        }
+        Some(External::PropSource) => {
+            let after = parse_prop_source(source, token, start, store)?;
+            Ok(directives::of_kind(after, NodeKind::PropSource, false))
+        }
+        None => Err(tokens::unexpected(token)),
     }
-    if tokens::says(source, name, b"prop") {
-        return parse_prop(source, token, seen, start, store);
-    }
-    if tokens::says(source, name, b"extend") {
-        let after = directives::parse_external_specializer(
-            source,
-            token,
-            start,
-            SpecializeKind::Extend,
-            store,
-        )?;
-        return Ok(directives::of_kind(after, NodeKind::ExternalSpecializer, false));
-    }
-    if tokens::says(source, name, b"specialize") {
-        let after = directives::parse_external_specializer(
-            source,
-            token,
-            start,
-            SpecializeKind::Specialize,
-            store,
-        )?;
-        return Ok(directives::of_kind(after, NodeKind::ExternalSpecializer, false));
-    }
-    if tokens::says(source, name, b"propSource") {
-        let after = parse_prop_source(source, token, start, store)?;
-        return Ok(directives::of_kind(after, NodeKind::PropSource, false));
-    }
-    Err(tokens::unexpected(token))
 }
 
-// `@external`, at its keyword.
+// `@external`, at its keyword. Like `parse_local` but for what is called.
 fn parse_external(
     source: &[u8],
     token: Token,
@@ -170,6 +156,7 @@ fn parse_dialects(
     ensures kept { Kept store.old store.new }
     ensures declares { DeclaresTo (λ _. past dialects_at (stream source.now token)) seen source.now token
         (lent_of store.old) (lent_of store.new) result }
+    ensures same { lent_of store.new ≡ lent_of store.old }
 {
     let keyword = tokens::next(source, token)?;
     let (after, _) = rules::parse_names(
@@ -192,6 +179,7 @@ fn parse_detect_delim(
     ensures kept { Kept store.old store.new }
     ensures declares { DeclaresTo (λ _. past (pure detect_delim) (stream source.now token)) seen source.now token
         (lent_of store.old) (lent_of store.new) result }
+    ensures same { lent_of store.new ≡ lent_of store.old }
 {
     let keyword = tokens::next(source, token)?;
     Ok(directives::of_kind(keyword, NodeKind::Grammar, false))
@@ -210,51 +198,42 @@ fn parse_directive(
     ensures declares { DeclaresTo (λ before. parse_directive (start_in token) before (part_of source.now text) (stream source.now token)) seen source.now token
         (lent_of store.old) (lent_of store.new) result }
 {
-    let at = tokens::at(token);
-    if tokens::says(source, at, b"top") {
-        let after = parse_top(source, token, store)?;
-        return Ok(directives::of_kind(after, NodeKind::TopRule, true));
-    }
-    if tokens::says(source, at, b"tokens") {
-        if seen.tokens {
-            return Err(Stop {
-                cause: Cause::SecondTokens,
-                place: tokens::start(token),
-            });
+    match words::which_directive(source, Some(text)) {
+        Some(Directive::Top) => {
+            let after = parse_top(source, token, store)?;
+            Ok(directives::of_kind(after, NodeKind::TopRule, true))
         }
-        let after = directives::parse_tokens(source, token, store)?;
-        return Ok(directives::of_kind(after, NodeKind::Tokens, false));
-    }
-    if tokens::says(source, at, b"local") {
-        let after = directives::parse_local(source, token, store)?;
-        return Ok(directives::of_kind(after, NodeKind::LocalTokens, false));
-    }
-    if tokens::says(source, at, b"context") {
-        return parse_context(source, token, seen, store);
-    }
-    if tokens::says(source, at, b"external") {
-        return parse_external(source, token, seen, store);
-    }
-    if tokens::says(source, at, b"dialects") {
-        return parse_dialects(source, token, seen, store);
-    }
-    if tokens::says(source, at, b"precedence") {
-        if seen.precedence {
-            return Err(Stop {
-                cause: Cause::SecondPrecedence,
-                place: tokens::start(token),
-            });
+        Some(Directive::Tokens) => {
+            if seen.tokens {
+                return Err(Stop {
+                    cause: Cause::SecondTokens,
+                    place: tokens::start(token),
+                });
+            }
+            let after = directives::parse_tokens(source, token, store)?;
+            Ok(directives::of_kind(after, NodeKind::Tokens, false))
         }
-        let after = blocks::parse_precedence(source, token, store)?;
-        return Ok(directives::of_kind(after, NodeKind::Precedences, false));
+        Some(Directive::Local) => {
+            let after = directives::parse_local(source, token, store)?;
+            Ok(directives::of_kind(after, NodeKind::LocalTokens, false))
+        }
+        Some(Directive::Context) => parse_context(source, token, seen, store),
+        Some(Directive::External) => parse_external(source, token, seen, store),
+        Some(Directive::Dialects) => parse_dialects(source, token, seen, store),
+        Some(Directive::Precedence) => {
+            if seen.precedence {
+                return Err(Stop {
+                    cause: Cause::SecondPrecedence,
+                    place: tokens::start(token),
+                });
+            }
+            let after = blocks::parse_precedence(source, token, store)?;
+            Ok(directives::of_kind(after, NodeKind::Precedences, false))
+        }
+        Some(Directive::DetectDelim) => parse_detect_delim(source, token, seen, store),
+        Some(Directive::Skip) => directives::parse_skip(source, token, seen, store),
+        None => Err(tokens::unexpected(token)),
     }
-    if tokens::says(source, at, b"detectDelim") {
-        return parse_detect_delim(source, token, seen, store);
-    }
-    if tokens::says(source, at, b"skip") {
-        return directives::parse_skip(source, token, seen, store);
-    }
-    Err(tokens::unexpected(token))
 }
 
 // A declaration, stored; `seen` says which kinds stand before it.

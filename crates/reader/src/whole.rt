@@ -1,4 +1,5 @@
 // The whole of a grammar file, from its first token on. A first pass measures each group; a second stores each declaration in its group.
+// The head of directives.rt says why text, token and store are three parameters.
 ghost use Rattle.std.specs.Prelude.{◌≤◌, ◌≡◌, eqb, length};
 ghost use Rattle.basics.specs.Basics.{if◌then◌otherwise◌};
 ghost use Rattle.notation.specs.Parser.{next as next_d};
@@ -11,7 +12,8 @@ ghost use Rattle.reader.specs.Whole.{group_count, PlacesTo, records_of, note_of,
 
 use crate::blocks::Extent;
 use crate::directives::{Declared, Seen};
-use crate::{blocks, top};
+use crate::words::{Directive, External};
+use crate::{blocks, top, words};
 use declarations::rules;
 use error::{Cause, Stop};
 use lexer::{Part, Token};
@@ -24,10 +26,11 @@ const GROUPS: usize = 13;
 // How many words the grammar's own record has.
 const WIDTH: usize = 7;
 
-// The last group that is stored: external props, behind the dialects.
+// The last group that is stored, that of external props in `place`: the dialects stand before it.
 const LAST: usize = 11;
 
-// What a pass has seen: which kinds, a top rule, `@detectDelim`, and where the last list of dialects begins.
+// What a pass has seen: which kinds, a top rule, `@detectDelim`, and where the last list of dialects begins. Each by itself: the flags say
+// nothing about the dialects.
 #[derive(Clone, Copy, Debug, PartialEq, Eq)]
 pub struct Noted {
     pub seen: Seen,
@@ -36,7 +39,8 @@ pub struct Noted {
     pub dialects: Option<Token>,
 }
 
-// All declarations are stored: the end, how much they take, how many records of the grammar's own they have, and what was noted.
+// All declarations are stored: the end, how much they take, how many records of the grammar's own they have, and what was noted. `Refusal` and
+// `Seen` have four fields too, which are numbers and flags.
 #[derive(Clone, Copy, Debug, PartialEq, Eq)]
 pub struct Passed {
     pub end: Token,
@@ -45,14 +49,7 @@ pub struct Passed {
     pub noted: Noted,
 }
 
-// The tree is stored: how many words and bytes it takes.
-#[derive(Clone, Copy, Debug, PartialEq, Eq)]
-pub struct Stored {
-    pub words: usize,
-    pub bytes: usize,
-}
-
-// Where the group of a kind stands among the groups; behind them what has no records in one.
+// The number of a kind's group, or 12 where it has none. A table, no conversion: most kinds share the last number.
 fn place(kind: NodeKind) -> usize
     ensures { result ≡ place_in stored_kinds (kind_number kind) }
 {
@@ -111,19 +108,13 @@ fn external_kind(source: &[u8], name: Option<Part>) -> Option<NodeKind>
     requires { Spelled source.now name }
     ensures { ahead_number result ≡ external_kind (text_in source.now name) }
 {
-    if tokens::says(source, name, b"tokens") {
-        return Some(NodeKind::ExternalTokens);
+    match words::which_external(source, name) {
+        Some(External::Tokens) => Some(NodeKind::ExternalTokens),
+        Some(External::Prop) => Some(NodeKind::ExternalProp),
+        Some(External::Specializer(_)) => Some(NodeKind::ExternalSpecializer),
+        Some(External::PropSource) => Some(NodeKind::PropSource),
+        None => None,
     }
-    if tokens::says(source, name, b"prop") {
-        return Some(NodeKind::ExternalProp);
-    }
-    if tokens::says(source, name, b"extend") || tokens::says(source, name, b"specialize") {
-        return Some(NodeKind::ExternalSpecializer);
-    }
-    if tokens::says(source, name, b"propSource") {
-        return Some(NodeKind::PropSource);
-    }
-    None
 }
 
 // The kind of what stands at `@external`, where it is known.
@@ -136,40 +127,29 @@ fn external_ahead(source: &[u8], token: Token) -> Option<NodeKind>
     external_kind(source, tokens::name(word))
 }
 
-// The kind of a declaration, from its first tokens, where it is known.
+// The kind of a declaration, from its first tokens, where it is known: before it is read, when `parse_directive` answers it.
 fn kind_ahead(source: &[u8], token: Token) -> Option<NodeKind>
     requires { LiesIn source.now 0 token }
     ensures { ahead_number result ≡ kind_ahead (stream source.now token) }
 {
     let at = tokens::at(token);
-    if tokens::says(source, at, b"top") {
-        return Some(NodeKind::TopRule);
+    match words::which_directive(source, at) {
+        Some(Directive::Top) => Some(NodeKind::TopRule),
+        Some(Directive::Tokens) => Some(NodeKind::Tokens),
+        Some(Directive::Local) => Some(NodeKind::LocalTokens),
+        Some(Directive::Context) => Some(NodeKind::Context),
+        Some(Directive::External) => external_ahead(source, token),
+        Some(Directive::Dialects) => Some(NodeKind::Dialect),
+        Some(Directive::Precedence) => Some(NodeKind::Precedences),
+        Some(Directive::DetectDelim) => Some(NodeKind::Grammar),
+        Some(Directive::Skip) => None,
+        None => {
+            if at.is_none() {
+                return Some(NodeKind::Rule);
+            }
+            None
+        }
     }
-    if tokens::says(source, at, b"tokens") {
-        return Some(NodeKind::Tokens);
-    }
-    if tokens::says(source, at, b"local") {
-        return Some(NodeKind::LocalTokens);
-    }
-    if tokens::says(source, at, b"context") {
-        return Some(NodeKind::Context);
-    }
-    if tokens::says(source, at, b"external") {
-        return external_ahead(source, token);
-    }
-    if tokens::says(source, at, b"dialects") {
-        return Some(NodeKind::Dialect);
-    }
-    if tokens::says(source, at, b"precedence") {
-        return Some(NodeKind::Precedences);
-    }
-    if tokens::says(source, at, b"detectDelim") {
-        return Some(NodeKind::Grammar);
-    }
-    if at.is_none() {
-        return Some(NodeKind::Rule);
-    }
-    None
 }
 
 // A declaration, stored where its group goes on, and how much it takes; the place of the group moves on.
@@ -266,7 +246,7 @@ impl Noted {
     }
 }
 
-// How many records of its own a declaration of a kind has; dialects are counted apart.
+// How many records of its own a declaration of a kind has; dialects are counted apart. A table, no conversion.
 fn records_of(kind: NodeKind) -> usize
     ensures { result ≡ records_of (kind_number kind) }
 {
@@ -330,7 +310,7 @@ fn store_groups(
     count: usize,
     groups: &mut [Extent],
     store: &mut Store,
-) -> Result<Stored, Stop>
+) -> Result<Extent, Stop>
     requires { (length source.now ≤ 0x10000) × LiesIn source.now 0 token
         × Known source.now token noted count groups.old store.old.records.now store.old.texts.now }
     ensures kept { Kept store.old store.new }
@@ -353,7 +333,7 @@ fn store_groups(
         noted.delim as u32,
         count,
     );
-    Ok(Stored {
+    Ok(Extent {
         words: store.n,
         bytes: store.x,
     })
@@ -365,7 +345,7 @@ fn parse_over(
     token: Token,
     groups: &mut [Extent],
     store: &mut Store,
-) -> Result<Stored, Stop>
+) -> Result<Extent, Stop>
     requires { (length source.now ≤ 0x10000) × First source.now token × Blank group_count (words_in groups.old) × Blank group_count (bytes_in groups.old) }
     ensures kept { Kept store.old store.new }
     ensures reads { Reads source.now store.old.records.now store.old.texts.now store.new.records.now store.new.texts.now result }
@@ -407,7 +387,7 @@ pub fn parse_from(
     token: Token,
     records: &mut [u32],
     texts: &mut [u8],
-) -> Result<Stored, Stop>
+) -> Result<Extent, Stop>
     requires { (length source.now ≤ 0x10000) × First source.now token }
     ensures { Reads source.now records.old texts.old records.new texts.new result }
 {

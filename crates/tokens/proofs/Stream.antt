@@ -1,8 +1,7 @@
 -- One step along the tokens of a text.
 -- Assumes nothing.
-use Prim.Native.Nat.{ℕ, ◌≤◌}
+use Prim.Native.Nat.{ℕ}
 use lib.Dec.{eqb}
-use lib.ListN.{length}
 use Rattle.basics.specs.Basics.{same}
 use Rattle.characters.specs.Places.{cut}
 use Rattle.error.specs.declared.Cause.TheVariants.{UnexpectedToken}
@@ -98,16 +97,10 @@ module _ (s : List ℕ) where
   at-whole (Of (Identifier a) start end) from h = tt
   at-whole (Eof p) from h = tt
 
-  pub part_lies : {part : Option Part} {a : Part} → Whole s part → part ≡ Some a → (a.from ≤ a.to) × (a.to ≤ length s)
-  part_lies {a = a} h q = let k : Whole s (Some a) = rw q at h in (k.forth, k.inside)
-
   pub says-part : (word : List ℕ) {part : Option Part} {a : Part} {r : Bool} → Whole s part → part ≡ Some a → r ≡ same word (cut s a.from a.to) → Says s part word r
   says-part word {part} {a} {r} h q t =
       let k : Whole s (Some a) = rw q at h in
       record { said = λ w l p. rw (q, l, t) (sym (spells-codes word (cut s a.from a.to) p k.bytes)) }
-
-  pub says_nothing : (word : List ℕ) {part : Option Part} → part ≡ None → Says s part word false
-  says_nothing word q = record { said = λ w l p. rw q }
 
   -- ------------------------------------------------------------------ taking a token
 

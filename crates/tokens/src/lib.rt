@@ -1,4 +1,7 @@
 // The current token, and how it is taken: the parser's steps along the tokens of a text.
+//
+// The source and a token, or a place, are two parameters: a token is a plain value with places in the source, which it does not hold, so that
+// it is kept and handed on, and contracts speak of it alone. So too `Whole source part` is asked of three functions: a part cannot say it.
 #![tactic(auto)]
 
 ghost use Rattle.std.specs.Prelude.{◌≡◌};
@@ -47,7 +50,7 @@ pub fn unexpected(token: Token) -> Stop
     }
 }
 
-// The code of a mark, or 0: no mark has it, and callers compare numbers.
+// The code of a mark; 0 for none, as its promise `mark_of` says; no mark has the code 0.
 pub fn mark(token: Token) -> u32
     ensures { result ≡ mark_of token }
 {
@@ -85,7 +88,8 @@ pub fn expect_punctuation(source: &[u8], token: Token, c: u32) -> Result<Token, 
     Ok(after)
 }
 
-// The name that a token is.
+// The name that a token is. `name`, `at` and `string` differ in the variant that they take, which no parameter names: one function of them
+// would be handed a closure with this same `match`.
 pub fn name(token: Token) -> Option<Part>
     ensures { result ≡ name_of token }
 {

@@ -1,6 +1,6 @@
 -- What the values of the code stand for, and what its functions promise of the words they are lent.
 -- Assumes nothing.
-use Rattle.std.specs.Prelude.{ℕ, zero, suc, ◌+◌, ◌*◌, ◌/◌, ◌≤◌, ◌<◌, ◌≡◌, Bool, true, false, ◌&&◌, List, [], ◌∷◌, eqb, length, get_or, Result, Ok, Err, MatchResult, MatchOption}
+use Rattle.std.specs.Prelude.{ℕ, zero, suc, ◌+◌, ◌*◌, ◌/◌, ◌≤◌, ◌<◌, ◌≡◌, Bool, true, false, ◌&&◌, List, [], ◌∷◌, eqb, leb, length, get_or, Result, Ok, Err, MatchResult, MatchOption}
 use Rattle.std.specs.Prelude.{Option as Optional, Some, None}
 use Rattle.std.proofs.Math.Option.{Option, none, some}
 use Rattle.characters.specs.Spans.{Span, ◌upto◌}
@@ -23,6 +23,9 @@ use Rattle.tree.specs.declared.Root.{Root}
 use Rattle.tree.specs.declared.NotATree.{NotATree}
 use Rattle.tree.specs.declared.NodeKind.{NodeKind}
 use Rattle.tree.specs.declared.NotAKind.{NotAKind}
+use Rattle.tree.specs.CharClasses.{class_value}
+use Rattle.tree.specs.Stored.{flag, repeat_value, specialize_value, prec_value}
+use Rattle.basics.specs.Basics.{within}
 use Rattle.tree.specs.declared.Kinds.{Kinds}
 use Rattle.tree.specs.declared.Group.{Group as DeclaredGroup}
 use Rattle.tree.specs.declared.Group.TheVariants as Groups
@@ -119,6 +122,28 @@ prec_of PrecKinds.Cut = cut
 abbrev pub prec_in : Optional DeclaredPrec → Option PrecKind
 prec_in None = none
 prec_in (Some k) = some (prec_of k)
+
+-- ------------------------------------------------------------------ values
+
+-- the class that has a value, or none has it
+abbrev pub IsClassOf : ℕ → Result DeclaredClass NotAKind → Type 0
+IsClassOf v r = MatchResult r (λ k. class_value (class_of k) ≡ v) (λ e. leb v 5 ≡ false)
+
+-- the repeat that has a value
+abbrev pub IsRepeatOf : ℕ → Result DeclaredRepeat NotAKind → Type 0
+IsRepeatOf v r = MatchResult r (λ k. repeat_value (repeat_of k) ≡ v) (λ e. leb v 2 ≡ false)
+
+-- the specialize that has a value
+abbrev pub IsSpecializeOf : ℕ → Result DeclaredSpecialize NotAKind → Type 0
+IsSpecializeOf v r = MatchResult r (λ k. specialize_value (specialize_of k) ≡ v) (λ e. within 1 2 v ≡ false)
+
+-- how an item with a value associates, if it does
+abbrev pub IsPrecOf : ℕ → Result DeclaredPrec NotAKind → Type 0
+IsPrecOf v r = MatchResult r (λ k. prec_value (some (prec_of k)) ≡ v) (λ e. within 1 3 v ≡ false)
+
+-- the flag that has a value
+abbrev pub IsFlag : ℕ → Optional Bool → Type 0
+IsFlag v r = MatchOption r (leb v 1 ≡ false) (λ b. flag b ≡ v)
 
 -- ------------------------------------------------------------------ records in words
 

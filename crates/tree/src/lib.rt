@@ -11,12 +11,12 @@ ghost use Rattle.tree.specs.Records.{width, words_of};
 ghost use Rattle.tree.specs.CharClasses.{ranges, class_value, from_name};
 ghost use Rattle.tree.specs.Stored.{repeat_value, specialize_value, marker_number, prec_value};
 ghost use Rattle.tree.specs.OneTree.{is_expression, has_text, value_fits, values_fit, groups_of, text_fits, begins, without, children_fit, record_fits, build};
-ghost use Rattle.tree.specs.Promise.{kind_number, IsKindOf, IsKind, class_of, class_in, repeat_of, specialize_of, marker_of, prec_in, record_of, IsRecord, span_of, count_of, word_at, record_at, node_at, Inside, first_place, kind_before, kinds_back, kinds_of, group_of, root_of, is_some, same_node, comparison};
+ghost use Rattle.tree.specs.Promise.{kind_number, IsKindOf, IsKind, IsClassOf, IsRepeatOf, IsSpecializeOf, IsPrecOf, IsFlag, class_of, class_in, repeat_of, specialize_of, marker_of, prec_in, record_of, IsRecord, span_of, count_of, word_at, record_at, node_at, Inside, first_place, kind_before, kinds_back, kinds_of, group_of, root_of, is_some, same_node, comparison};
 
 // How many words a record has, and which is which.
-const WIDTH: usize = 7;
+pub const WIDTH: usize = 7;
 
-const KIND: usize = 0;
+pub const KIND: usize = 0;
 
 const START: usize = 1;
 
@@ -24,11 +24,17 @@ const PLACE: usize = 2;
 
 const SIZE: usize = 3;
 
-const VALUE: usize = 4;
+pub const VALUE: usize = 4;
 
-const SECOND: usize = 5;
+pub const SECOND: usize = 5;
 
-const CHILDREN: usize = 6;
+pub const CHILDREN: usize = 6;
+
+// What stands as value and second where a record has none.
+const NO_VALUE: u32 = 0;
+
+// One past the last code that a character may have.
+const PAST_LAST_CODE: u32 = char::MAX as u32 + 1;
 
 // The kinds of records, by the numbers that their words have.
 #[derive(Clone, Copy, Debug, PartialEq, Eq)]
@@ -74,10 +80,11 @@ pub enum NodeKind {
     PrecedenceMarker,
 }
 
-// A number that is no kind's.
+// A number that stands for no kind or value.
 #[derive(Clone, Copy, Debug, PartialEq, Eq)]
 pub struct NotAKind;
 
+// Each `try_from` of this file lists its numbers: no cast makes an enum of a number, and no `impl` of ours may be written by a macro.
 impl TryFrom<u32> for NodeKind {
     type Error = NotAKind;
 
@@ -130,7 +137,8 @@ impl TryFrom<u32> for NodeKind {
 }
 
 impl NodeKind {
-    // The first word of a record of this kind.
+    // The first word of a record of this kind. This and each `value` below are methods and not `From`: one cast either way, and
+    // `u32::from(kind)` would not say which word of a record it is.
     pub fn number(self) -> u32
         ensures { result ≡ kind_number self }
     {
@@ -140,43 +148,50 @@ impl NodeKind {
     pub fn is_expression(self) -> bool
         ensures { result ≡ is_expression (kind_number self) }
     {
-        match self {
+        matches!(
+            self,
             NodeKind::Name
-            | NodeKind::Specialize
-            | NodeKind::InlineRule
-            | NodeKind::Choice
-            | NodeKind::Sequence
-            | NodeKind::Repeat
-            | NodeKind::Literal
-            | NodeKind::Set
-            | NodeKind::Any
-            | NodeKind::Class => true,
-            _ => false,
-        }
+                | NodeKind::Specialize
+                | NodeKind::InlineRule
+                | NodeKind::Choice
+                | NodeKind::Sequence
+                | NodeKind::Repeat
+                | NodeKind::Literal
+                | NodeKind::Set
+                | NodeKind::Any
+                | NodeKind::Class
+        )
     }
 
     fn has_text(self) -> bool
         ensures { result ≡ has_text (kind_number self) }
     {
-        match self {
-            NodeKind::Grammar
-            | NodeKind::Tokens
-            | NodeKind::TokenPrecedence
-            | NodeKind::TokenConflict
-            | NodeKind::LocalTokens
-            | NodeKind::Precedences
-            | NodeKind::MainSkip
-            | NodeKind::ScopedSkip
-            | NodeKind::Specialize
-            | NodeKind::Choice
-            | NodeKind::Sequence
-            | NodeKind::Repeat
-            | NodeKind::Set
-            | NodeKind::Span
-            | NodeKind::Any
-            | NodeKind::Class => false,
-            _ => true,
-        }
+        matches!(
+            self,
+            NodeKind::TopRule
+                | NodeKind::Rule
+                | NodeKind::Param
+                | NodeKind::Prop
+                | NodeKind::PartText
+                | NodeKind::PartName
+                | NodeKind::TokenLiteral
+                | NodeKind::NamedNode
+                | NodeKind::Context
+                | NodeKind::Source
+                | NodeKind::ExternalTokens
+                | NodeKind::ConflictName
+                | NodeKind::ExternalSpecializer
+                | NodeKind::PropSource
+                | NodeKind::PrecedenceItem
+                | NodeKind::Dialect
+                | NodeKind::ExternalProp
+                | NodeKind::ExternalName
+                | NodeKind::Name
+                | NodeKind::InlineRule
+                | NodeKind::Literal
+                | NodeKind::AmbiguityMarker
+                | NodeKind::PrecedenceMarker
+        )
     }
 
     // The values of a kind, where the second word is 0.
@@ -184,12 +199,16 @@ impl NodeKind {
         ensures { result ≡ value_fits (kind_number self) value }
     {
         match self {
-            NodeKind::Grammar | NodeKind::Prop | NodeKind::Sequence | NodeKind::Set => value <= 1,
-            NodeKind::ExternalSpecializer | NodeKind::Specialize => 1 <= value && value <= 2,
-            NodeKind::Repeat => value <= 2,
-            NodeKind::PrecedenceItem => value <= 3,
-            NodeKind::Class => value <= 5,
-            _ => value == 0,
+            NodeKind::Grammar | NodeKind::Prop | NodeKind::Sequence | NodeKind::Set => {
+                flag_of(value).is_some()
+            }
+            NodeKind::ExternalSpecializer | NodeKind::Specialize => {
+                SpecializeKind::try_from(value).is_ok()
+            }
+            NodeKind::Repeat => RepeatKind::try_from(value).is_ok(),
+            NodeKind::PrecedenceItem => { value == NO_VALUE || PrecKind::try_from(value).is_ok() }
+            NodeKind::Class => CharClass::try_from(value).is_ok(),
+            _ => value == NO_VALUE,
         }
     }
 
@@ -199,9 +218,9 @@ impl NodeKind {
         ensures { result ≡ values_fit (kind_number self) value second }
     {
         if self == NodeKind::Span {
-            return value < second && second <= 1114112;
+            return value < second && second <= PAST_LAST_CODE;
         }
-        self.value_fits(value) && second == 0
+        self.value_fits(value) && second == NO_VALUE
     }
 }
 
@@ -243,8 +262,84 @@ pub enum PrecKind {
     Cut,
 }
 
+// The kinds of a value: all else asks these four, and `flag_of`, what a value is.
+impl TryFrom<u32> for CharClass {
+    type Error = NotAKind;
+
+    ghost try_from_gives = { IsClassOf };
+
+    fn try_from(value: u32) -> Result<CharClass, NotAKind> {
+        match value {
+            0 => Ok(CharClass::AsciiLetter),
+            1 => Ok(CharClass::AsciiLowercase),
+            2 => Ok(CharClass::AsciiUppercase),
+            3 => Ok(CharClass::Digit),
+            4 => Ok(CharClass::Whitespace),
+            5 => Ok(CharClass::Eof),
+            _ => Err(NotAKind),
+        }
+    }
+}
+
+impl TryFrom<u32> for RepeatKind {
+    type Error = NotAKind;
+
+    ghost try_from_gives = { IsRepeatOf };
+
+    fn try_from(value: u32) -> Result<RepeatKind, NotAKind> {
+        match value {
+            0 => Ok(RepeatKind::Optional),
+            1 => Ok(RepeatKind::ZeroOrMore),
+            2 => Ok(RepeatKind::OneOrMore),
+            _ => Err(NotAKind),
+        }
+    }
+}
+
+impl TryFrom<u32> for SpecializeKind {
+    type Error = NotAKind;
+
+    ghost try_from_gives = { IsSpecializeOf };
+
+    fn try_from(value: u32) -> Result<SpecializeKind, NotAKind> {
+        match value {
+            1 => Ok(SpecializeKind::Extend),
+            2 => Ok(SpecializeKind::Specialize),
+            _ => Err(NotAKind),
+        }
+    }
+}
+
+// The value 0 is an item's with none, and is no kind's.
+impl TryFrom<u32> for PrecKind {
+    type Error = NotAKind;
+
+    ghost try_from_gives = { IsPrecOf };
+
+    fn try_from(value: u32) -> Result<PrecKind, NotAKind> {
+        match value {
+            1 => Ok(PrecKind::Left),
+            2 => Ok(PrecKind::Right),
+            3 => Ok(PrecKind::Cut),
+            _ => Err(NotAKind),
+        }
+    }
+}
+
+// The flag that a value is: of a grammar, that it detects delimiters; of a prop, its `@`; of a sequence, that it is explicitly empty; of
+// a set, that it is inverted. No `TryFrom`: trait and type are both std's.
+pub fn flag_of(value: u32) -> Option<bool>
+    ensures { IsFlag value result }
+{
+    match value {
+        0 => Some(false),
+        1 => Some(true),
+        _ => None,
+    }
+}
+
 impl CharClass {
-    // The class that a part of the source names.
+    // The class that a part of the source names. No `match`: one on the bytes leaves a goal for each byte at which a name may differ.
     pub fn from_name(name: &[u8]) -> Option<CharClass>
         ensures bytes { class_in result ≡ from_name name.now }
         ensures text { encode_all (codes name.now) ≡ name.now → class_in result ≡ from_name (codes name.now) }
@@ -338,9 +433,11 @@ impl ConflictMarkerKind {
 pub fn prec_value(kind: Option<PrecKind>) -> u32
     ensures { result ≡ prec_value (prec_in kind) }
 {
-    kind.map_or(0, |kind| kind as u32)
+    kind.map_or(NO_VALUE, |kind| kind as u32)
 }
 
+// `same` of the definitions: it is proved here once, and not at each test, that `==` is it. `lexer::words::spells` is alike: neither crate
+// stands on the other, and a crate below both would hold this `==` alone.
 fn same_bytes(left: &[u8], right: &[u8]) -> bool
     ensures { result ≡ same left.now right.now }
 {
@@ -377,6 +474,9 @@ pub enum Root {
 #[derive(Clone, Copy, Debug, PartialEq, Eq)]
 pub struct NotATree;
 
+// A record is given by all records and its number, and not by a slice of its own words: its children stand before it, and are found by
+// counting back from there. That it is there (`i < count_of`, `end ≤ count_of`) ties the two, so that no type of one of them says it.
+
 // How many records the words have.
 pub fn count(records: &[u32]) -> usize
     ensures { result ≡ count_of records.now }
@@ -393,21 +493,22 @@ pub fn word(records: &[u32], i: usize, k: usize) -> u32
 }
 
 // Where the last n branches begin that end before the record `end`; 0 where there are not so many. Each record passed takes its
-// children with it.
+// children with it. The 0 is no Option: this and `child` promise `first_place`, which is 0 there, so each caller would put it back.
 pub fn first(records: &[u32], end: usize, n: usize) -> usize
     requires { end ≤ count_of records.now }
     ensures { result ≡ first_place records.now end n }
 {
-    let mut i = end;
     let mut need = n;
-    while 0 < need {
-        if i < need {
+    for i in (0..end).rev() {
+        if need == 0 {
+            return i + 1;
+        }
+        if i + 1 < need {
             return 0;
         }
-        i -= 1;
         need = need - 1 + word(records, i, CHILDREN) as usize;
     }
-    i
+    0
 }
 
 // Where the child k of the record i ends, its own record the last before that; children count from 0.
@@ -418,16 +519,24 @@ pub fn child(records: &[u32], i: usize, k: usize) -> usize
     first(records, i, word(records, i, CHILDREN) as usize - (k + 1))
 }
 
-// The kind of the last branch that ends before the record `end`, if one does and its number is a kind's.
+// The number of the kind of the last branch that ends before the record `end`, or 0, which is no kind's, where none does.
 #[tactic(auto, unfolding(crate::specs::Promise::kind_before))]
+pub fn number_before(records: &[u32], end: usize) -> u32
+    requires { end ≤ count_of records.now }
+    ensures { result ≡ kind_before records.now end }
+{
+    if end == 0 {
+        return 0;
+    }
+    word(records, end - 1, KIND)
+}
+
+// The kind of the last branch that ends before the record `end`, if one does and its number is a kind's.
 pub fn kind_before(records: &[u32], end: usize) -> Option<NodeKind>
     requires { end ≤ count_of records.now }
     ensures { IsKind (kind_before records.now end) result }
 {
-    if end == 0 {
-        return None;
-    }
-    NodeKind::try_from(word(records, end - 1, KIND)).ok()
+    NodeKind::try_from(number_before(records, end)).ok()
 }
 
 // The kinds that the children of a group may have.
@@ -531,7 +640,7 @@ fn groups(kind: NodeKind, value: u32) -> &'static [Group]
         NodeKind::Name | NodeKind::Choice => &[Each(Expressions)],
         NodeKind::Specialize => &[One(Expressions), One(Expressions), Each(Of(NodeKind::Prop))],
         NodeKind::InlineRule => &[One(Expressions), Each(Of(NodeKind::Prop))],
-        NodeKind::Sequence if value == 0 => &[Each(Slots)],
+        NodeKind::Sequence if flag_of(value) == Some(false) => &[Each(Slots)],
         NodeKind::Set => &[Each(Of(NodeKind::Span))],
         _ => &[],
     }
@@ -553,13 +662,8 @@ impl Branches<'_> {
     fn end_in(self, kinds: Kinds) -> bool
         ensures { result ≡ begins (kinds_of kinds) (kinds_back self.entry.records.now self.entry.end self.entry.left) }
     {
-        if self.left == 0 {
-            return false;
-        }
-        let Some(kind) = kind_before(self.records, self.end) else {
-            return false;
-        };
-        kinds.contains(kind)
+        self.left != 0
+            && matches!(kind_before(self.records, self.end), Some(kind) if kinds.contains(kind))
     }
 
     // Those before the last. Where none is left nobody asks where they end, and the count back is spared.
@@ -761,7 +865,9 @@ impl<'a> Tree<'a> {
     }
 }
 
-// Stores a record at a place where it fits there, and says how many words it takes in any case.
+// Stores a record at a place where it fits there, and says how many words it takes in any case. The whole and a place, here and in
+// `put_text`, and not the rest from there: what is stored is promised of the whole (`written`), as `parser` promises it of its store, and the
+// place may lie past the end.
 pub fn put(records: &mut [u32], at: usize, r: Record) -> usize
     ensures { (result ≡ width) × (records.new ≡ written records.old at (words_of (record_of r))) }
 {

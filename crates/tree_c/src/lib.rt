@@ -6,6 +6,7 @@ ghost use Rattle.tree.specs.OneTree.{is_expression, build};
 ghost use Rattle.tree.specs.Promise.{is_some, comparison};
 ghost use Rattle.tree_c.specs.Answers.{comparison_number};
 
+use error::Cause;
 use tree::{NotATree, Root, Tree};
 
 // The words and texts are one tree, its root an expression.
@@ -24,7 +25,7 @@ pub extern "C" fn tree_is_grammar(records: &[u32], texts: &[u8]) -> bool
     Tree { records, texts }.is_tree(Root::Grammar)
 }
 
-// 1 for equal, 0 for different, 25 where one of the two is not a tree.
+// 1 for equal, 0 for different, 25, the number of its cause, where one of the two is not a tree.
 #[unsafe(no_mangle)]
 pub extern "C" fn tree_structurally_eq(
     left: &[u32],
@@ -43,8 +44,7 @@ pub extern "C" fn tree_structurally_eq(
         texts: rights,
     };
     match tree.structurally_eq(other) {
-        Ok(true) => 1,
-        Ok(false) => 0,
-        Err(NotATree) => 25,
+        Ok(equal) => equal as u32,
+        Err(NotATree) => Cause::NotATree.number(),
     }
 }

@@ -7,7 +7,7 @@
 
 use anyhow::{Context, Result};
 use printing::Line;
-use reader::whole::Stored;
+use reader::blocks::Extent;
 use std::io;
 use std::io::{Read, Write};
 
@@ -16,9 +16,9 @@ const END: u8 = 0x1E;
 // What is lent to the calls: as much as by the program `normal`.
 #[derive(Drop)]
 struct Lent {
-    records: [u32; 14000],
-    texts: [u8; 32768],
-    out: [u8; 65535],
+    records: [u32; printing::WORDS],
+    texts: [u8; printing::TEXTS],
+    out: [u8; printing::OUTPUT],
 }
 
 // Seven words a line.
@@ -51,7 +51,7 @@ fn print_normal<W: Write>(text: &[u8], lent: &mut Lent, to: &mut W) -> io::Resul
 
 fn replay<W: Write>(text: &[u8], lent: &mut Lent, to: &mut W) -> io::Result<()> {
     match calls::read(text, &mut lent.records, &mut lent.texts) {
-        Ok(Stored { words, bytes }) => {
+        Ok(Extent { words, bytes }) => {
             print_words(&lent.records[..words.min(lent.records.len())], to)?;
             print_bytes(&lent.texts[..bytes.min(lent.texts.len())], to)?;
             print_normal(text, lent, to)
@@ -70,9 +70,9 @@ fn replay_all<W: Write>(input: &[u8], lent: &mut Lent, to: &mut W) -> io::Result
 
 fn run<R: Read, W: Write>(from: &mut R, input: &mut [u8], to: &mut W) -> Result<()> {
     let mut lent = Lent {
-        records: [0; 14000],
-        texts: [0; 32768],
-        out: [0; 65535],
+        records: [0; printing::WORDS],
+        texts: [0; printing::TEXTS],
+        out: [0; printing::OUTPUT],
     };
     let n = printing::read_all(from, input).context("vectors: cannot read standard input")?;
     replay_all(&input[..n], &mut lent, to).context("vectors: cannot write standard output")

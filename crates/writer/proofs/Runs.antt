@@ -12,7 +12,7 @@ use Rattle.tree.specs.Promise.{word_at, first_place, kind_before, All}
 use Rattle.tree.proofs.Back.{all_left, all_right, root_at, past_root, kind-last, before, nodes-before, nodes-some, first-last}
 use Rattle.writer.specs.Promise.{Lent, row_at, Run}
 use Rattle.output.specs.Promise.{Wrote}
-use Rattle.writer.specs.Walk.{class, front, back, last_at, last_class, branch_text, branches_text}
+use Rattle.writer.specs.Walk.{class, front, back, last_at, last_class, branch_text, branches_text, WroteRun}
 use Rattle.writer.proofs.Small.{row_small, front-small, back-small}
 
 -- ------------------------------------------------------------------ runs of branches
@@ -217,3 +217,7 @@ run-few s = omega (arith, s.counted, s.ends, count-size s.branches)
 -- a run of as many, said otherwise
 abbrev pub recount : {ws ts : List ℕ} {n m end : ℕ} → m ≡ n → Run ws ts n end → Run ws ts m end
 recount e s = record { lo = s.lo; branches = s.branches; all = s.all; counted = s.counted ∙ sym e; ends = s.ends }
+
+-- a run that is written, said of the same words
+pub moved : {ws ts vs us : List ℕ} {i j n e m : ℕ} {old new : List ℕ} (l : ℕ) → vs ≡ ws → us ≡ ts → j ≡ i → WroteRun vs us j l n e old new m → WroteRun ws ts i l n e old new m
+moved l a b c w = rw (← a, ← b, ← c) w

@@ -8,15 +8,21 @@
 // token has its space in front, but the first of a line.
 #![tactic(auto)]
 
-ghost use Rattle.std.specs.Prelude.{ℕ, ◌≡◌, ◌≤◌, ◌<◌, ◌^◌, true, eqb};
-ghost use Rattle.tree.specs.OneTree.{is_kind};
+ghost use Rattle.std.specs.Prelude.{ℕ, ◌≡◌, ◌≤◌, ◌<◌, ◌^◌, true, eqb, ◌++◌};
 ghost use Rattle.tree.specs.Promise.{count_of, word_at, kind_number, kind_before as kind_at};
-ghost use Rattle.writer.specs.Promise.{Lent, row_at, Run, Stored, WroteNormal, WroteNormalWithin};
+ghost use Rattle.writer.specs.Promise.{Run, Stored, WroteNormal, WroteNormalWithin};
+ghost use Rattle.writer.specs.Rows.{row_of};
 ghost use Rattle.output.specs.Promise.{Wrote};
-ghost use Rattle.writer.specs.Walk.{number_of, setting_number, class as class_d, comma, opens, shuts, new_line, separator, between, source, link, tail, setting as setting_d, in_brackets, is_line, tokenless, lead, ends, before, spelled, after, own, close, last_at, front, back, WroteOne, WroteRun, text_for, dialect_ends, detect_words, closing};
+ghost use Rattle.writer.specs.Walk.{number_of, setting_number, class as class_d, comma, opens, shuts, new_line, between, source, link, tail, setting as setting_d, in_brackets, is_line, tokenless, lead, ends, before, spelled, after, own, close, last_at, front, back, WroteOne, WroteRun, text_for, dialect_ends, detect_words, closing};
+
+mod rows;
 
 use output::{put, put_codes, put_quoted, upto};
-use tree::{NodeKind, Tree, count, first, kind_before, word};
+use rows::Row;
+use tree::{
+    CHILDREN, CharClass, NodeKind, PrecKind, RepeatKind, SECOND, SpecializeKind, Tree, count,
+    first, flag_of, kind_before, word,
+};
 
 // The text is longer than it may be.
 #[derive(Clone, Copy, Debug, PartialEq, Eq)]
@@ -30,15 +36,6 @@ enum Setting {
     Slots,
     Other,
 }
-
-// The words of a record that are looked at.
-const KIND: usize = 0;
-
-const VALUE: usize = 4;
-
-const SECOND: usize = 5;
-
-const CHILDREN: usize = 6;
 
 // Kinds whose records stand in one list have one class.
 #[tactic(auto, unfolding(crate::specs::Walk::class))]
@@ -54,7 +51,7 @@ fn class(kind: NodeKind) -> NodeKind
     }
 }
 
-// How children stand in a record of a kind.
+// How children stand in a record of a kind. No `From`: this is a table of what the normal text does, and a kind is not a setting.
 #[tactic(auto, unfolding(crate::specs::Walk::setting))]
 fn setting_of(parent: NodeKind) -> Setting
     ensures { setting_number result ≡ setting_d (kind_number parent) }
@@ -64,18 +61,6 @@ fn setting_of(parent: NodeKind) -> Setting
         NodeKind::Choice => Setting::Arms,
         NodeKind::Sequence | NodeKind::Repeat => Setting::Slots,
         _ => Setting::Other,
-    }
-}
-
-// A record stands in round brackets.
-#[tactic(auto, unfolding(crate::specs::Walk::in_brackets))]
-fn is_bracketed(setting: Setting, kind: NodeKind, value: u32) -> bool
-    ensures { result ≡ in_brackets (setting_number setting) (kind_number kind) value }
-{
-    match kind {
-        NodeKind::Choice => setting == Setting::Arms || setting == Setting::Slots,
-        NodeKind::Sequence => value == 0 && setting == Setting::Slots,
-        _ => false,
     }
 }
 
@@ -94,7 +79,7 @@ fn is_tokenless(kind: NodeKind, value: u32) -> bool
 {
     match kind {
         NodeKind::Choice | NodeKind::Repeat | NodeKind::Span => true,
-        NodeKind::Sequence => value == 0,
+        NodeKind::Sequence => flag_of(value) == Some(false),
         _ => false,
     }
 }
@@ -191,71 +176,43 @@ fn tail(parent: NodeKind, child: NodeKind) -> &'static [u8]
     }
 }
 
-// What stands before a record: a space, or an opening bracket.
-#[tactic(auto, unfolding(crate::specs::Walk::lead))]
-fn lead(setting: Setting, kind: NodeKind, value: u32) -> &'static [u8]
-    ensures { result.now ≡ lead (setting_number setting) (kind_number kind) value }
-{
-    if is_bracketed(setting, kind, value) {
-        b" ("
-    } else if is_tokenless(kind, value) || is_line(setting, kind) {
-        b""
-    } else {
-        b" "
-    }
-}
-
-// What stands after it: a closing bracket, or a line feed.
-#[tactic(auto, unfolding(crate::specs::Walk::ends))]
-fn ends(setting: Setting, kind: NodeKind, value: u32) -> &'static [u8]
-    ensures { result.now ≡ ends (setting_number setting) (kind_number kind) value }
-{
-    if is_bracketed(setting, kind, value) {
-        b" )"
-    } else if is_line(setting, kind) {
-        b"\n"
-    } else {
-        b""
-    }
-}
-
 // What stands before a record's text.
 #[tactic(auto, unfolding(crate::specs::Walk::before, crate::specs::Walk::text_for))]
 fn before(kind: NodeKind, value: u32) -> &'static [u8]
     ensures { result.now ≡ before (kind_number kind) value }
 {
     match kind {
-        NodeKind::Prop => match value {
-            1 => b"@",
+        NodeKind::Prop => match flag_of(value) {
+            Some(true) => b"@",
             _ => b"",
         },
-        NodeKind::ExternalSpecializer => match value {
-            1 => b"@external extend {",
-            2 => b"@external specialize {",
+        NodeKind::ExternalSpecializer => match SpecializeKind::try_from(value) {
+            Ok(SpecializeKind::Extend) => b"@external extend {",
+            Ok(SpecializeKind::Specialize) => b"@external specialize {",
+            Err(_) => b"",
+        },
+        NodeKind::Specialize => match SpecializeKind::try_from(value) {
+            Ok(SpecializeKind::Extend) => b"@extend",
+            Ok(SpecializeKind::Specialize) => b"@specialize",
+            Err(_) => b"",
+        },
+        NodeKind::Sequence => match flag_of(value) {
+            Some(true) => b"( )",
             _ => b"",
         },
-        NodeKind::Specialize => match value {
-            1 => b"@extend",
-            2 => b"@specialize",
-            _ => b"",
+        NodeKind::Set => match flag_of(value) {
+            Some(false) => b"$[",
+            Some(true) => b"![",
+            None => b"",
         },
-        NodeKind::Sequence => match value {
-            1 => b"( )",
-            _ => b"",
-        },
-        NodeKind::Set => match value {
-            0 => b"$[",
-            1 => b"![",
-            _ => b"",
-        },
-        NodeKind::Class => match value {
-            0 => b"@asciiLetter",
-            1 => b"@asciiLowercase",
-            2 => b"@asciiUppercase",
-            3 => b"@digit",
-            4 => b"@whitespace",
-            5 => b"@eof",
-            _ => b"",
+        NodeKind::Class => match CharClass::try_from(value) {
+            Ok(CharClass::AsciiLetter) => b"@asciiLetter",
+            Ok(CharClass::AsciiLowercase) => b"@asciiLowercase",
+            Ok(CharClass::AsciiUppercase) => b"@asciiUppercase",
+            Ok(CharClass::Digit) => b"@digit",
+            Ok(CharClass::Whitespace) => b"@whitespace",
+            Ok(CharClass::Eof) => b"@eof",
+            Err(_) => b"",
         },
         NodeKind::TopRule => b"@top ",
         NodeKind::PartName => b"{ ",
@@ -282,11 +239,11 @@ fn after(kind: NodeKind, value: u32) -> &'static [u8]
     ensures { result.now ≡ after (kind_number kind) value }
 {
     match kind {
-        NodeKind::PrecedenceItem => match value {
-            1 => b" @left",
-            2 => b" @right",
-            3 => b" @cut",
-            _ => b"",
+        NodeKind::PrecedenceItem => match PrecKind::try_from(value) {
+            Ok(PrecKind::Left) => b" @left",
+            Ok(PrecKind::Right) => b" @right",
+            Ok(PrecKind::Cut) => b" @cut",
+            Err(_) => b"",
         },
         NodeKind::PartName => b" }",
         _ => b"",
@@ -299,11 +256,11 @@ fn close(kind: NodeKind, value: u32, last: Option<NodeKind>) -> &'static [u8]
     ensures { result.now ≡ close (kind_number kind) value (number_of last) }
 {
     match kind {
-        NodeKind::Repeat => match value {
-            0 => b" ?",
-            1 => b" *",
-            2 => b" +",
-            _ => b"",
+        NodeKind::Repeat => match RepeatKind::try_from(value) {
+            Ok(RepeatKind::Optional) => b" ?",
+            Ok(RepeatKind::ZeroOrMore) => b" *",
+            Ok(RepeatKind::OneOrMore) => b" +",
+            Err(_) => b"",
         },
         NodeKind::TokenLiteral | NodeKind::NamedNode | NodeKind::Name => match last {
             Some(NodeKind::Prop) => b" ]",
@@ -347,8 +304,8 @@ fn dialect_end(last: Option<NodeKind>) -> &'static [u8]
 fn detect_word(value: u32) -> &'static [u8]
     ensures { result.now ≡ text_for detect_words value }
 {
-    match value {
-        1 => b"@detectDelim\n",
+    match flag_of(value) {
+        Some(true) => b"@detectDelim\n",
         _ => b"",
     }
 }
@@ -357,169 +314,170 @@ fn detect_word(value: u32) -> &'static [u8]
 fn follows(left: Option<NodeKind>, child: NodeKind) -> bool
     ensures { result ≡ eqb (number_of left) (kind_number child) }
 {
-    match left {
-        Some(left) => left == child,
-        None => false,
-    }
+    left == Some(child)
 }
 
-// Between two children in lists.
-fn put_separator(parent: NodeKind, left: Option<NodeKind>, child: NodeKind, out: &mut [u8]) -> usize
-    ensures { Wrote (separator (kind_number parent) (number_of left) (kind_number child)) out.old out.new result }
-{
-    if follows(left, child) {
-        return put(comma(parent, child), out);
-    }
-    let n = put(shuts(left), out);
-    let a = upto(n, out.len());
-    n + put(opens(parent, child), &mut out[a..])
-}
-
-// Between two children.
-#[tactic(auto, unfolding(crate::specs::Walk::between))]
-fn put_between(parent: NodeKind, left: Option<NodeKind>, child: NodeKind, out: &mut [u8]) -> usize
-    ensures { Wrote (between (kind_number parent) (number_of left) (kind_number child)) out.old out.new result }
+// Between two children: what ends the list of the one, and what goes on with it or begins that of the other.
+#[tactic(auto, unfolding(crate::specs::Walk::between, crate::specs::Walk::separator))]
+fn between(
+    parent: NodeKind,
+    left: Option<NodeKind>,
+    child: NodeKind,
+) -> (&'static [u8], &'static [u8])
+    ensures { result.0.now ++ result.1.now ≡ between (kind_number parent) (number_of left) (kind_number child) }
 {
     match parent {
-        NodeKind::Grammar => put(new_line(left, child), out),
+        NodeKind::Grammar => (b"", new_line(left, child)),
         NodeKind::Tokens
         | NodeKind::LocalTokens
         | NodeKind::ScopedSkip
         | NodeKind::Sequence
-        | NodeKind::Set => put(opens(parent, child), out),
-        _ => put_separator(parent, left, child, out),
+        | NodeKind::Set => (b"", opens(parent, child)),
+        _ if follows(left, child) => (b"", comma(parent, child)),
+        _ => (shuts(left), opens(parent, child)),
     }
 }
 
-// The kind of a record.
-fn kind(records: &[u32], i: usize) -> NodeKind
-    requires { (i < count_of records.now) × (is_kind (word_at records.now i 0) ≡ true) }
-    ensures { kind_number result ≡ word_at records.now i 0 }
-{
-    let Ok(kind) = NodeKind::try_from(word(records, i, KIND)) else {
-        unreachable!()
-    };
-    kind
-}
-
-// A record's own text: a string, a span's codes, none where it stands before the source string, or a name.
-fn put_spelled(tree: Tree, i: usize, out: &mut [u8]) -> usize
-    requires { Lent tree.records.now tree.texts.now × (i < count_of tree.records.now) }
-    ensures { Wrote (spelled (row_at tree.entry.records.now tree.entry.texts.now i)) out.old out.new result }
-{
-    match kind(tree.records, i) {
-        NodeKind::PartText | NodeKind::TokenLiteral | NodeKind::Source | NodeKind::Literal => {
-            put_quoted(tree.text(i), out)
+impl<'a> Row<'a> {
+    // It stands in round brackets.
+    #[tactic(auto, unfolding(crate::specs::Walk::in_brackets))]
+    fn is_bracketed(self, setting: Setting) -> bool
+        ensures { result ≡ in_brackets (setting_number setting) (kind_number self.entry.kind) self.entry.value }
+    {
+        match self.kind {
+            NodeKind::Choice => setting == Setting::Arms || setting == Setting::Slots,
+            NodeKind::Sequence => {
+                flag_of(self.value) == Some(false) && setting == Setting::Slots
+            }
+            _ => false,
         }
-        NodeKind::Span => put_codes(
-            word(tree.records, i, VALUE),
-            word(tree.records, i, SECOND),
-            out,
-        ),
-        NodeKind::Context
-        | NodeKind::ExternalTokens
-        | NodeKind::ExternalSpecializer
-        | NodeKind::PropSource
-        | NodeKind::ExternalProp => 0,
-        _ => put(tree.text(i), out),
+    }
+
+    // What stands before it: a space, or an opening bracket.
+    #[tactic(auto, unfolding(crate::specs::Walk::lead))]
+    fn lead(self, setting: Setting) -> &'static [u8]
+        ensures { result.now ≡ lead (setting_number setting) (kind_number self.entry.kind) self.entry.value }
+    {
+        if self.is_bracketed(setting) {
+            b" ("
+        } else if is_tokenless(self.kind, self.value) || is_line(setting, self.kind) {
+            b""
+        } else {
+            b" "
+        }
+    }
+
+    // What stands after it: a closing bracket, or a line feed.
+    #[tactic(auto, unfolding(crate::specs::Walk::ends))]
+    fn ends(self, setting: Setting) -> &'static [u8]
+        ensures { result.now ≡ ends (setting_number setting) (kind_number self.entry.kind) self.entry.value }
+    {
+        if self.is_bracketed(setting) {
+            b" )"
+        } else if is_line(setting, self.kind) {
+            b"\n"
+        } else {
+            b""
+        }
+    }
+
+    // Its own text: a string, a span's codes, none where it stands before the source string, or a name.
+    fn put_spelled(self, out: &mut [u8]) -> usize
+        ensures { Wrote (spelled (row_of self.entry)) out.old out.new result }
+    {
+        match self.kind {
+            NodeKind::PartText | NodeKind::TokenLiteral | NodeKind::Source | NodeKind::Literal => {
+                put_quoted(self.tree.text(self.i), out)
+            }
+            NodeKind::Span => put_codes(self.value, word(self.tree.records, self.i, SECOND), out),
+            NodeKind::Context
+            | NodeKind::ExternalTokens
+            | NodeKind::ExternalSpecializer
+            | NodeKind::PropSource
+            | NodeKind::ExternalProp => 0,
+            _ => put(self.tree.text(self.i), out),
+        }
+    }
+
+    // The record by itself: what stands before its text, that, and what stands after it.
+    fn put_own(self, out: &mut [u8]) -> usize
+        ensures { Wrote (own (row_of self.entry)) out.old out.new result }
+    {
+        let mut n = put(before(self.kind, self.value), out);
+        let a = upto(n, out.len());
+        n += self.put_spelled(&mut out[a..]);
+        let b = upto(n, out.len());
+        n + put(after(self.kind, self.value), &mut out[b..])
+    }
+
+    // The record's name before a child that is a source string.
+    fn put_source(self, child: NodeKind, out: &mut [u8]) -> usize
+        ensures { Wrote (source (row_of self.entry).text (kind_number child)) out.old out.new result }
+    {
+        let NodeKind::Source = child else {
+            return 0;
+        };
+        let mut n = put(b" ", out);
+        let a = upto(n, out.len());
+        n += put(self.tree.text(self.i), &mut out[a..]);
+        let b = upto(n, out.len());
+        n + put(b" from", &mut out[b..])
+    }
+
+    // What stands between two of its children.
+    fn put_link(self, left: Option<NodeKind>, child: NodeKind, out: &mut [u8]) -> usize
+        ensures { Wrote (link (row_of self.entry) (number_of left) (kind_number child)) out.old out.new result }
+    {
+        let (end, start) = between(self.kind, left, child);
+        let mut n = put(end, out);
+        let a = upto(n, out.len());
+        n += put(start, &mut out[a..]);
+        let b = upto(n, out.len());
+        n + self.put_source(child, &mut out[b..])
+    }
+
+    // All that stands before the children of a child, behind one of the class `left`.
+    fn put_front(self, left: Option<NodeKind>, row: Row, out: &mut [u8]) -> usize
+        ensures { Wrote (front (row_of self.entry) (number_of left) (row_of row.entry)) out.old out.new result }
+    {
+        let mut n = self.put_link(left, class(row.kind), out);
+        let a = upto(n, out.len());
+        n += put(row.lead(setting_of(self.kind)), &mut out[a..]);
+        let b = upto(n, out.len());
+        n + row.put_own(&mut out[b..])
+    }
+
+    // The class of the last branch that ends before the record `end`, if one does.
+    fn class_before(self, end: usize) -> Option<NodeKind>
+        requires { end ≤ count_of self.tree.records.now }
+        ensures { number_of result ≡ class_d (kind_at self.entry.tree.records.now end) }
+    {
+        Some(class(kind_before(self.tree.records, end)?))
+    }
+
+    // The class of its last child, if it has one.
+    fn last_class(self) -> Option<NodeKind>
+        ensures { number_of result ≡ last_at self.entry.tree.records.now self.entry.i }
+    {
+        if word(self.tree.records, self.i, CHILDREN) == 0 {
+            return None;
+        }
+        self.class_before(self.i)
+    }
+
+    // All that stands after the children of a child.
+    fn put_back(self, row: Row, out: &mut [u8]) -> usize
+        ensures { Wrote (back (row_of self.entry).kind (row_of row.entry) (last_at row.entry.tree.records.now row.entry.i)) out.old out.new result }
+    {
+        let mut n = put(close(row.kind, row.value, row.last_class()), out);
+        let a = upto(n, out.len());
+        n += put(row.ends(setting_of(self.kind)), &mut out[a..]);
+        let b = upto(n, out.len());
+        n + put(tail(self.kind, class(row.kind)), &mut out[b..])
     }
 }
 
-// A record by itself: what stands before its text, that, and what stands after it.
-fn put_own(tree: Tree, i: usize, out: &mut [u8]) -> usize
-    requires { Lent tree.records.now tree.texts.now × (i < count_of tree.records.now) }
-    ensures { Wrote (own (row_at tree.entry.records.now tree.entry.texts.now i)) out.old out.new result }
-{
-    let kind = kind(tree.records, i);
-    let value = word(tree.records, i, VALUE);
-    let mut n = put(before(kind, value), out);
-    let a = upto(n, out.len());
-    n += put_spelled(tree, i, &mut out[a..]);
-    let b = upto(n, out.len());
-    n + put(after(kind, value), &mut out[b..])
-}
-
-// The parent's name before a source string.
-fn put_source(tree: Tree, parent: usize, child: NodeKind, out: &mut [u8]) -> usize
-    requires { Lent tree.records.now tree.texts.now × (parent < count_of tree.records.now) }
-    ensures { Wrote (source (row_at tree.entry.records.now tree.entry.texts.now parent).text (kind_number child)) out.old out.new result }
-{
-    let NodeKind::Source = child else {
-        return 0;
-    };
-    let mut n = put(b" ", out);
-    let a = upto(n, out.len());
-    n += put(tree.text(parent), &mut out[a..]);
-    let b = upto(n, out.len());
-    n + put(b" from", &mut out[b..])
-}
-
-// What stands between two children of a record.
-fn put_link(
-    tree: Tree,
-    parent: usize,
-    left: Option<NodeKind>,
-    child: NodeKind,
-    out: &mut [u8],
-) -> usize
-    requires { Lent tree.records.now tree.texts.now × (parent < count_of tree.records.now) }
-    ensures { Wrote (link (row_at tree.entry.records.now tree.entry.texts.now parent) (number_of left) (kind_number child)) out.old out.new result }
-{
-    let n = put_between(kind(tree.records, parent), left, child, out);
-    let a = upto(n, out.len());
-    n + put_source(tree, parent, child, &mut out[a..])
-}
-
-// All that stands before the children of the record i, a child of the record `parent` behind one of the class `left`.
-fn put_front(tree: Tree, parent: usize, left: Option<NodeKind>, i: usize, out: &mut [u8]) -> usize
-    requires { Lent tree.records.now tree.texts.now × (parent < count_of tree.records.now) × (i < count_of tree.records.now) }
-    ensures { Wrote (front (row_at tree.entry.records.now tree.entry.texts.now parent) (number_of left) (row_at tree.entry.records.now tree.entry.texts.now i)) out.old out.new result }
-{
-    let own = kind(tree.records, i);
-    let value = word(tree.records, i, VALUE);
-    let above = kind(tree.records, parent);
-    let mut n = put_link(tree, parent, left, class(own), out);
-    let a = upto(n, out.len());
-    n += put(lead(setting_of(above), own, value), &mut out[a..]);
-    let b = upto(n, out.len());
-    n + put_own(tree, i, &mut out[b..])
-}
-
-// The class of the last branch that ends before the record `end`, if one does.
-fn class_before(tree: Tree, end: usize) -> Option<NodeKind>
-    requires { Lent tree.records.now tree.texts.now × (end ≤ count_of tree.records.now) }
-    ensures { number_of result ≡ class_d (kind_at tree.entry.records.now end) }
-{
-    Some(class(kind_before(tree.records, end)?))
-}
-
-// The class of the last child of a record, if it has one.
-fn last_class(tree: Tree, i: usize) -> Option<NodeKind>
-    requires { Lent tree.records.now tree.texts.now × (i < count_of tree.records.now) }
-    ensures { number_of result ≡ last_at tree.entry.records.now i }
-{
-    if word(tree.records, i, CHILDREN) == 0 {
-        return None;
-    }
-    class_before(tree, i)
-}
-
-// All that stands after them.
-fn put_back(tree: Tree, parent: usize, i: usize, out: &mut [u8]) -> usize
-    requires { Lent tree.records.now tree.texts.now × (parent < count_of tree.records.now) × (i < count_of tree.records.now) }
-    ensures { Wrote (back (row_at tree.entry.records.now tree.entry.texts.now parent).kind (row_at tree.entry.records.now tree.entry.texts.now i) (last_at tree.entry.records.now i)) out.old out.new result }
-{
-    let own = kind(tree.records, i);
-    let value = word(tree.records, i, VALUE);
-    let above = kind(tree.records, parent);
-    let mut n = put(close(own, value, last_class(tree, i)), out);
-    let a = upto(n, out.len());
-    n += put(ends(setting_of(above), own, value), &mut out[a..]);
-    let b = upto(n, out.len());
-    n + put(tail(above, class(own)), &mut out[b..])
-}
-
-// How many children a record has; and all words have 32 bits.
+// How many children a record has; and all words have 32 bits. No `Row`: clause `sizes` is needed to make one.
 fn children(records: &[u32], i: usize) -> usize
     requires { i < count_of records.now }
     ensures value { result ≡ word_at records.now i 6 }
@@ -530,49 +488,42 @@ fn children(records: &[u32], i: usize) -> usize
 
 // The branch whose record is i, a child of the record `parent` behind one of the class `left`.
 #[cycle(one_run)]
-fn one(tree: Tree, parent: usize, left: Option<NodeKind>, i: usize, out: &mut [u8]) -> usize
-    requires { Lent tree.records.now tree.texts.now × (parent < count_of tree.records.now) × (i < count_of tree.records.now) × Run tree.records.now tree.texts.now (word_at tree.records.now i 6) i }
-    ensures { WroteOne tree.entry.records.now tree.entry.texts.now parent (number_of left) i out.old out.new result }
+fn one(parent: Row, left: Option<NodeKind>, i: usize, out: &mut [u8]) -> usize
+    requires { (i < count_of parent.tree.records.now) × Run parent.tree.records.now parent.tree.texts.now (word_at parent.tree.records.now i 6) i }
+    ensures { WroteOne parent.entry.tree.records.now parent.entry.tree.texts.now parent.entry.i (number_of left) i out.old out.new result }
 {
-    let mut n = put_front(tree, parent, left, i, out);
+    let row = Row::of(parent.tree, i);
+    let mut n = parent.put_front(left, row, out);
     let a = upto(n, out.len());
-    n += run(tree, i, None, i, children(tree.records, i), &mut out[a..]);
+    n += run(
+        row,
+        None,
+        i,
+        children(parent.tree.records, i),
+        &mut out[a..],
+    );
     let b = upto(n, out.len());
-    n + put_back(tree, parent, i, &mut out[b..])
+    n + parent.put_back(row, &mut out[b..])
 }
 
 // The last `count` branches that end before the record `end`, first to last: each half of them by itself, so that calls stand no deeper
 // for many siblings than their number's digits.
 #[cycle(one_run)]
-fn run(
-    tree: Tree,
-    parent: usize,
-    left: Option<NodeKind>,
-    end: usize,
-    count: usize,
-    out: &mut [u8],
-) -> usize
-    requires { Lent tree.records.now tree.texts.now × (parent < count_of tree.records.now) × (end ≤ count_of tree.records.now) × Run tree.records.now tree.texts.now count end }
-    ensures { WroteRun tree.entry.records.now tree.entry.texts.now parent (number_of left) count end out.old out.new result }
+fn run(parent: Row, left: Option<NodeKind>, end: usize, count: usize, out: &mut [u8]) -> usize
+    requires { (end ≤ count_of parent.tree.records.now) × Run parent.tree.records.now parent.tree.texts.now count end }
+    ensures { WroteRun parent.entry.tree.records.now parent.entry.tree.texts.now parent.entry.i (number_of left) count end out.old out.new result }
 {
     if count == 0 {
         return 0;
     }
     if count == 1 {
-        return one(tree, parent, left, end - 1, out);
+        return one(parent, left, end - 1, out);
     }
     let half = count / 2;
-    let mid = first(tree.records, end, half);
-    let n = run(tree, parent, left, mid, count - half, out);
+    let mid = first(parent.tree.records, end, half);
+    let n = run(parent, left, mid, count - half, out);
     let a = upto(n, out.len());
-    n + run(
-        tree,
-        parent,
-        class_before(tree, mid),
-        end,
-        half,
-        &mut out[a..],
-    )
+    n + run(parent, parent.class_before(mid), end, half, &mut out[a..])
 }
 
 // What stands after the last line: the end of the dialects, and `@detectDelim`.
@@ -590,14 +541,12 @@ pub fn normal_text(tree: Tree, out: &mut [u8]) -> usize
     requires { Stored tree.records.now tree.texts.now }
     ensures { WroteNormal tree.entry.records.now tree.entry.texts.now out.old out.new result }
 {
-    let root = count(tree.records) - 1;
-    let n = run(tree, root, None, root, children(tree.records, root), out);
+    let last = count(tree.records) - 1;
+    let children = children(tree.records, last);
+    let root = Row::of(tree, last);
+    let n = run(root, None, last, children, out);
     let a = upto(n, out.len());
-    n + put_closing(
-        word(tree.records, root, VALUE),
-        last_class(tree, root),
-        &mut out[a..],
-    )
+    n + put_closing(root.value, root.last_class(), &mut out[a..])
 }
 
 // The normal text, where it has at most `limit` bytes and fits the output. It is measured first, so that the output is otherwise as it was.

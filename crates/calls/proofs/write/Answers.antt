@@ -1,13 +1,16 @@
 -- `write` meets its contract.
 -- Assumes nothing.
+use Rattle.std.proofs.Common.{rules}
+use Rattle.writer.specs.Promise.{WroteNormalWithin}
+use Rattle.calls.specs.Promise.{WriteTo}
+use Rattle.calls.proofs.Mapped.{with_other_error}
 use Rattle.calls.proofs.NormalLaws.{write_done, write_full}
 use Rattle.grammar.specs.Reading.{longest}
 use Rattle.calls.proofs.write.Goals as goal
 
-pub returns-in_default : goal.returns-in_default
-unfolding longest
-returns-in_default c = write_full _ c.in_default.ensures c.refuse.result c.refuse.ensures
-
 pub returns : goal.returns
 unfolding longest
-returns c = write_done _ c.in-Ok.ensures
+returns c =
+    with_other_error (λ o. WroteNormalWithin c.args.tree.records.now c.args.tree.texts.now longest c.args.output.now c.write_normal_text.new.out o)
+    (λ r. WriteTo c.args.text.now c.args.tree.records.now c.args.tree.texts.now c.args.output.now r c.write_normal_text.new.out) _ _ c.map_err.ensures.cases
+    (λ x k. write_done _ k) (λ e f l k. write_full _ k f (search rules)) c.write_normal_text.ensures

@@ -5,4 +5,4 @@ use Rattle.characters.proofs.decode_wide.Goals as goal
 
 pub returns : goal.returns
 returns c =
-    c.of_len.ensures ∙ rw (c.lead_len.ensures, c.byte_at-a.ensures, c.byte_at-b.ensures, c.byte_at-c.ensures, c.byte_at-d.ensures) (sym (bytes-at _ _ c.requires _ refl))
+    c.of_bytes.ensures ∙ rw (c.byte_at-a.ensures, c.byte_at-b.ensures, c.byte_at-c.ensures, c.byte_at-d.ensures) (sym (bytes-at _ _ c.requires _ refl))

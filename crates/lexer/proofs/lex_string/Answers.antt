@@ -1,11 +1,8 @@
 -- `lexer::lex_string` meets its contract. Assumes nothing.
 use mathlib.Core.Path.{sym, ◌∙◌}
 use Rattle.characters.specs.Classes.{is_line_terminator}
-use Rattle.lexer.proofs.Pieces.{next_peek, string-done, string_fails}
+use Rattle.lexer.proofs.Pieces.{next_peek, string-done}
 use Rattle.lexer.proofs.lex_string.Goals as goal
-
-pub returns-in_default : goal.returns-in_default
-returns-in_default c = let h = c.body_end.ensures is_line_terminator (λ x r h. h) in string_fails _ _ c.requires.inside _ (sym c.in_default.is ∙ h)
 
 pub returns : goal.returns
 returns c = let p = c.requires in let h = c.body_end.ensures is_line_terminator (λ x r h. h) in

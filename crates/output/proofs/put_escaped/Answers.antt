@@ -2,13 +2,12 @@
 use mathlib.Core.Path.{sym, ◌∙◌}
 use Rattle.spelling.specs.Spelling.{quoted}
 use Rattle.spelling.proofs.Back.{quoted_yes, quoted_no}
-use Rattle.output.proofs.Writes.{adds_then}
 use Rattle.output.proofs.put_escaped.Goals as goal
 
 pub returns-then-is_special : goal.returns-then-is_special
 unfolding quoted
-returns-then-is_special c = rw (quoted_yes _ _ (sym c.is_special.ensures ∙ c.if-is_special.true)) (adds_then c.put_byte-m.ensures c.put_byte.ensures)
+returns-then-is_special c = rw (quoted_yes _ _ (sym c.is_special.ensures ∙ c.if-is_special.true)) c.put.ensures
 
-pub returns : goal.returns
+pub returns-else-is_special : goal.returns-else-is_special
 unfolding quoted
-returns c = rw (quoted_no _ _ (sym c.is_special.ensures ∙ c.if-is_special.false)) c.put_byte-2.ensures
+returns-else-is_special c = rw (quoted_no _ _ (sym c.is_special.ensures ∙ c.if-is_special.false)) c.put-else-is_special.ensures

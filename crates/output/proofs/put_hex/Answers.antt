@@ -1,23 +1,24 @@
--- `output::put_hex` meets its contract. Assumes nothing.
+-- `output::put_hex` meets its contract. The invariant: the digits at the first powers are written. Assumes nothing.
+use mathlib.Core.Path.{◌≡◌}
 use native.Mathlib.Omega.{arith}
-use Rattle.output.proofs.Digits.{hex-digits, digit-small}
-use Rattle.output.proofs.Writes.{adds_then}
+use Rattle.output.proofs.Digits.{first_digits, first-next, first-small, first-all}
+use Rattle.output.proofs.Writes.{wrote_none, then}
 use Rattle.output.proofs.put_hex.Goals as goal
 
-pub put_digit-b-requires : goal.put_digit-b-requires
-put_digit-b-requires c = (omega arith, omega (arith, c.put_digit-a.ensures.counts, digit-small c.args.code 0x100000))
+pub loop-unit-init : goal.loop-unit-init
+unfolding first_digits
+loop-unit-init c = wrote_none _
 
-pub put_digit-c-requires : goal.put_digit-c-requires
-put_digit-c-requires c = (omega arith, omega (arith, c.put_digit-a.ensures.counts, c.put_digit-b.ensures.counts, digit-small c.args.code 0x100000, digit-small c.args.code 0x10000))
+pub overflow_add-n : goal.overflow_add-n
+overflow_add-n c = omega (arith, c.loop-unit.invariant.counts, first-small c.args.code c.loop-unit.unit-index, c.put_digit-n.ensures.few, c.loop-unit-test.true)
 
-pub put_digit-d-requires : goal.put_digit-d-requires
-put_digit-d-requires c = (omega arith, omega (arith, c.put_digit-a.ensures.counts, c.put_digit-b.ensures.counts, c.put_digit-c.ensures.counts, digit-small c.args.code 0x100000, digit-small c.args.code 0x10000, digit-small c.args.code 0x1000))
+pub loop-unit-preserved : goal.loop-unit-preserved
+loop-unit-preserved c = rw (← first-next c.args.code c.loop-unit.unit-index) (then c.loop-unit.invariant c.upto-a.ensures c.put_digit-n.ensures.digit)
 
-pub put_digit-e-requires : goal.put_digit-e-requires
-put_digit-e-requires c = (omega arith, omega (arith, c.put_digit-a.ensures.counts, c.put_digit-b.ensures.counts, c.put_digit-c.ensures.counts, c.put_digit-d.ensures.counts, digit-small c.args.code 0x100000, digit-small c.args.code 0x10000, digit-small c.args.code 0x1000, digit-small c.args.code 0x100))
-
-pub put_byte-requires : goal.put_byte-requires
-put_byte-requires c = omega (arith, c.put_digit-a.ensures.counts, c.put_digit-b.ensures.counts, c.put_digit-c.ensures.counts, c.put_digit-d.ensures.counts, c.put_digit-e.ensures.counts, digit-small c.args.code 0x100000, digit-small c.args.code 0x10000, digit-small c.args.code 0x1000, digit-small c.args.code 0x100, digit-small c.args.code 0x10)
+pub overflow_add-result : goal.overflow_add-result
+overflow_add-result c = omega (arith, c.loop-unit.invariant.counts, first-small c.args.code c.loop-unit.unit-index, c.loop-unit.auto.unit-index-end, c.put.ensures.counts)
 
 pub returns : goal.returns
-returns c = rw (← hex-digits _, ← c.hex_digit.ensures) (adds_then (adds_then (adds_then (adds_then (adds_then c.put_digit-a.ensures c.put_digit-b.ensures) c.put_digit-c.ensures) c.put_digit-d.ensures) c.put_digit-e.ensures) c.put_byte.ensures)
+returns c =
+    let e : c.loop-unit.unit-index ≡ 5 = omega (arith, c.loop-unit.auto.unit-index-end, c.loop-unit-test.false) in
+    rw (← first-all _, ← c.hex_digit.ensures) (then (rw e at c.loop-unit.invariant) c.upto-end.ensures c.put.ensures)

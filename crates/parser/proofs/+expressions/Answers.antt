@@ -160,33 +160,33 @@ item-returns-clause-parses t c =
     let e = item-some _ _ _ _ (rw c.mark.ensures at (marked-none c.marker_kind.ensures c.in_default.is)) (sym c.ends_sequence.ensures ∙ c.if-ends_sequence.false) g.gives in
     record { tree = g.tree; gives = e; onward = g.onward; lays = g.lays; shown = g.shown }
 
-pub items-loop-after-init : goal.items-loop-after-init
-items-loop-after-init t c = record { kept = kept_here _; itemizing = itemizing _ _ _ _ _ _ c.requires.lies }
+pub items-loop-read-init : goal.items-loop-read-init
+items-loop-read-init t c = record { kept = kept_here _; itemizing = itemizing _ _ _ _ _ _ c.requires.lies }
 
-pub items-returns-in_err-item-clause-parses : goal.items-returns-in_err-item-clause-parses
-items-returns-in_err-item-clause-parses t c = rw (stopped c.from_residual.result c.from_residual.ensures.1) (itemizing-refused c.loop-after.invariant.itemizing c.in_err-item.ensures.parses)
+pub items-returns-in_err-read-clause-parses : goal.items-returns-in_err-read-clause-parses
+items-returns-in_err-read-clause-parses t c = rw (stopped c.from_residual.result c.from_residual.ensures.1) (itemizing-refused c.loop-read.invariant.itemizing c.in_err-read.ensures.parses)
 
-pub items-returns-in-End-clause-parses : goal.items-returns-in-End-clause-parses
-items-returns-in-End-clause-parses t c = itemizing-over c.loop-after.invariant.itemizing (rw c.in-End.is at c.in_ok-item.ensures.parses)
+pub items-returns-clause-parses : goal.items-returns-clause-parses
+items-returns-clause-parses t c = itemizing-over c.loop-read.invariant.itemizing (rw c.in_default.is at c.in_ok-read.ensures.parses)
 
 pub items-overflow_add-markers : goal.items-overflow_add-markers
-items-overflow_add-markers t c = let k = itemizing-small c.loop-after.invariant.itemizing c.requires.small in omega arith
+items-overflow_add-markers t c = let k = itemizing-small c.loop-read.invariant.itemizing c.requires.small in omega arith
 
-pub items-loop-after-preserved-in-Marker : goal.items-loop-after-preserved-in-Marker
-items-loop-after-preserved-in-Marker t c =
+pub items-loop-read-preserved-in-Marker : goal.items-loop-read-preserved-in-Marker
+items-loop-read-preserved-in-Marker t c =
     record {
-      kept = kept_then c.loop-after.invariant.kept c.item.ensures.kept;
-      itemizing = itemizing-marker c.loop-after.invariant.itemizing (rw c.in-Marker.is at c.in_ok-item.ensures.parses);
+      kept = kept_then c.loop-read.invariant.kept c.item.ensures.kept;
+      itemizing = itemizing-marker c.loop-read.invariant.itemizing (rw (c.in-Some.is, c.in-Marker.is) at c.in_ok-read.ensures.parses);
     }
 
 pub items-overflow_add-expressions : goal.items-overflow_add-expressions
-items-overflow_add-expressions t c = let k = itemizing-small c.loop-after.invariant.itemizing c.requires.small in omega arith
+items-overflow_add-expressions t c = let k = itemizing-small c.loop-read.invariant.itemizing c.requires.small in omega arith
 
-pub items-loop-after-preserved : goal.items-loop-after-preserved
-items-loop-after-preserved t c =
+pub items-loop-read-preserved : goal.items-loop-read-preserved
+items-loop-read-preserved t c =
     record {
-      kept = kept_then c.loop-after.invariant.kept c.item.ensures.kept;
-      itemizing = itemizing-expression c.loop-after.invariant.itemizing (rw c.in-Expression.is at c.in_ok-item.ensures.parses);
+      kept = kept_then c.loop-read.invariant.kept c.item.ensures.kept;
+      itemizing = itemizing-expression c.loop-read.invariant.itemizing (rw (c.in-Some.is, c.in-Expression.is) at c.in_ok-read.ensures.parses);
     }
 
 pub list-loop-after-init : goal.list-loop-after-init

@@ -78,15 +78,15 @@ invariant-arms-loop-bar l =
 abbrev pub decreases-arms-loop-bar : goal.decreases-arms-loop-bar
 decreases-arms-loop-bar l = size (stream l.source l.t)
 
-abbrev pub invariant-items-loop-after : goal.invariant-items-loop-after
-invariant-items-loop-after l =
+abbrev pub invariant-items-loop-read : goal.invariant-items-loop-read
+invariant-items-loop-read l =
     record {
       kept : Kept l.initial.store l.store;
       itemizing : Itemizing (choice_at l.left) l.source l.initial.t (lent_of l.initial.store) l.t (lent_of l.store) l.markers l.expressions l.start l.shape;
     }
 
-abbrev pub decreases-items-loop-after : goal.decreases-items-loop-after
-decreases-items-loop-after l = size (stream l.source l.t)
+abbrev pub decreases-items-loop-read : goal.decreases-items-loop-read
+decreases-items-loop-read l = size (stream l.source l.t)
 
 abbrev pub invariant-list-loop-after : goal.invariant-list-loop-after
 invariant-list-loop-after l =

@@ -2,8 +2,5 @@
 use Rattle.tokens.proofs.Stream.{eat-at}
 use Rattle.tokens.proofs.eat_at.Goals as goal
 
-pub says-requires : goal.says-requires
-says-requires c = rw c.at.ensures c.requires
-
 pub returns : goal.returns
 returns c = eat-at _ _ (rw c.at.ensures at c.says.ensures) c.eat_if.ensures

@@ -2,8 +2,5 @@
 use Rattle.tokens.proofs.Stream.{eat-name}
 use Rattle.tokens.proofs.eat_identifier_value.Goals as goal
 
-pub says-requires : goal.says-requires
-says-requires c = rw c.name.ensures c.requires
-
 pub returns : goal.returns
 returns c = eat-name _ _ (rw c.name.ensures at c.says.ensures) c.eat_if.ensures

@@ -4,70 +4,78 @@ use mathlib.Core.Path.{◌∙◌}
 use native.Mathlib.Omega.{arith}
 use Rattle.output.proofs.Writes.{wrote_none, then}
 use Rattle.writer.proofs.Small.{bounded, row_small, front-small, back-small}
-use Rattle.writer.proofs.Runs.{text-none, only, branch-says, right, mid-first, left, mid-low, halves, run_small, run-few, recount}
+use Rattle.writer.proofs.Runs.{text-none, only, branch-says, right, mid-first, left, mid-low, halves, run_small, run-few, recount, moved}
 use Rattle.writer.proofs.+one_run.Goals as goal
 
 pub one-run-n-requires : goal.one-run-n-requires
-one-run-n-requires t c = (
-  omega (arith, c.decreases, c.children.ensures.value, run-few c.requires.3, c.requires.0.few),
-  (c.requires.0, c.requires.2, omega arith, recount c.children.ensures.value c.requires.3),
-)
+one-run-n-requires t c =
+    rw (c.of-row.ensures.records, c.of-row.ensures.texts) (
+      omega (arith, c.decreases, c.children.ensures.value, run-few c.requires.1, c.args.parent.lent.few),
+      (omega arith, recount c.children.ensures.value c.requires.1),
+    )
 
 pub one-overflow_add-n : goal.one-overflow_add-n
 one-overflow_add-n t c =
-    let kids = recount c.children.ensures.value c.requires.3 in
-    omega (arith, c.requires.0.few, bounded c.put_front-n.ensures (front-small _ _ _), row_small c.requires.0 c.args.parent, row_small c.requires.0 c.args.i, run_small c.requires.0 _ _ kids (c.run-n.ensures kids))
+    let p = c.args.parent in
+    let kids = recount c.children.ensures.value c.requires.1 in
+    let w = moved 0 c.of-row.ensures.records c.of-row.ensures.texts c.of-row.ensures.i c.run-n.ensures in
+    omega (arith, p.lent.few, bounded c.put_front-n.ensures (front-small _ _ _), row_small p.lent p.i, row_small c.of-row.result.lent c.of-row.result.i, run_small p.lent _ _ kids (w kids))
 
 pub one-overflow_add-result : goal.one-overflow_add-result
 one-overflow_add-result t c =
-    let kids = recount c.children.ensures.value c.requires.3 in
-    omega (arith, c.requires.0.few, bounded c.put_front-n.ensures (front-small _ _ _), row_small c.requires.0 c.args.parent, row_small c.requires.0 c.args.i, run_small c.requires.0 _ _ kids (c.run-n.ensures kids), bounded c.put_back.ensures (back-small _ _ _))
+    let p = c.args.parent in
+    let kids = recount c.children.ensures.value c.requires.1 in
+    let w = moved 0 c.of-row.ensures.records c.of-row.ensures.texts c.of-row.ensures.i c.run-n.ensures in
+    omega (arith, p.lent.few, bounded c.put_front-n.ensures (front-small _ _ _), row_small p.lent p.i, row_small c.of-row.result.lent c.of-row.result.i, run_small p.lent _ _ kids (w kids), bounded c.put_back.ensures (back-small _ _ _))
 
 pub one-returns : goal.one-returns
 one-returns t c = λ s.
-    rw (branch-says _ _ _ s) (then (then c.put_front-n.ensures c.upto-a.ensures (c.run-n.ensures (recount c.children.ensures.value s))) c.upto-b.ensures c.put_back.ensures)
+    let w = moved 0 c.of-row.ensures.records c.of-row.ensures.texts c.of-row.ensures.i c.run-n.ensures in
+    let front = rw (c.of-row.ensures.records, c.of-row.ensures.texts, c.of-row.ensures.i) at c.put_front-n.ensures in
+    let back = rw (c.of-row.ensures.records, c.of-row.ensures.texts, c.of-row.ensures.i) at c.put_back.ensures in
+    rw (branch-says _ _ _ s) (then (then front c.upto-a.ensures (w (recount c.children.ensures.value s))) c.upto-b.ensures back)
 
 pub run-returns-then-count-eq0 : goal.run-returns-then-count-eq0
 run-returns-then-count-eq0 t c = λ s. rw (text-none _ _ s c.if-count-eq0.true) (wrote_none _)
 
 pub run-overflow_sub-end : goal.run-overflow_sub-end
-run-overflow_sub-end t c = omega (arith, (only c.requires.3 c.if-count-eq1.true).positive)
+run-overflow_sub-end t c = omega (arith, (only c.requires.1 c.if-count-eq1.true).positive)
 
 pub run-one-requires : goal.run-one-requires
 run-one-requires t c =
-    let o = only c.requires.3 c.if-count-eq1.true in
-    (omega (arith, c.decreases, o.positive), (c.requires.0, c.requires.1, omega (arith, c.requires.2, o.positive), o.kids))
+    let o = only c.requires.1 c.if-count-eq1.true in
+    (omega (arith, c.decreases, o.positive), (omega (arith, c.requires.0, o.positive), o.kids))
 
 pub run-returns-then-count-eq1 : goal.run-returns-then-count-eq1
 run-returns-then-count-eq1 t c = λ s. rw ((only s c.if-count-eq1.true).says _ _) (c.one.ensures (only s c.if-count-eq1.true).kids)
 
 pub run-run-n-requires : goal.run-run-n-requires
 run-run-n-requires t c =
-    let s = c.requires.3 in
+    let s = c.requires.1 in
     let half = c.args.count / 2 in
     let m = mid-first s half (omega arith) in
     let low = mid-low s half (omega arith) (omega arith) in (
-      omega (arith, c.decreases, c.requires.0.few, c.requires.2, run-few s, c.first-mid.ensures, m, low),
-      (c.requires.0, c.requires.1, omega (arith, c.requires.2, c.first-mid.ensures, m, low), left s half (omega arith) (c.first-mid.ensures ∙ m)),
+      omega (arith, c.decreases, c.args.parent.lent.few, c.requires.0, run-few s, c.first-mid.ensures, m, low),
+      (omega (arith, c.requires.0, c.first-mid.ensures, m, low), left s half (omega arith) (c.first-mid.ensures ∙ m)),
     )
 
 pub run-class_before-requires : goal.run-class_before-requires
 run-class_before-requires t c =
-    let s = c.requires.3 in
+    let s = c.requires.1 in
     let half = c.args.count / 2 in
-    omega (arith, c.requires.2, c.first-mid.ensures, mid-first s half (omega arith), mid-low s half (omega arith) (omega arith))
+    omega (arith, c.requires.0, c.first-mid.ensures, mid-first s half (omega arith), mid-low s half (omega arith) (omega arith))
 
 pub run-run-requires : goal.run-run-requires
-run-run-requires t c = (omega (arith, c.decreases), (c.requires.0, c.requires.1, c.requires.2, right c.requires.3 (c.args.count / 2) (omega arith)))
+run-run-requires t c = (omega (arith, c.decreases), (c.requires.0, right c.requires.1 (c.args.count / 2) (omega arith)))
 
 pub run-overflow_add-result : goal.run-overflow_add-result
 run-overflow_add-result t c =
-    let s = c.requires.3 in
+    let s = c.requires.1 in
     let half = c.args.count / 2 in
     let m = mid-first s half (omega arith) in
     let lefts = left s half (omega arith) (c.first-mid.ensures ∙ m) in
     let rights = right s half (omega arith) in
-    omega (arith, c.requires.0.few, c.requires.2, c.first-mid.ensures, m, mid-low s half (omega arith) (omega arith), run_small c.requires.0 _ _ lefts (c.run-n.ensures lefts), run_small c.requires.0 _ _ rights (c.run.ensures rights))
+    omega (arith, c.args.parent.lent.few, c.requires.0, c.first-mid.ensures, m, mid-low s half (omega arith) (omega arith), run_small c.args.parent.lent _ _ lefts (c.run-n.ensures lefts), run_small c.args.parent.lent _ _ rights (c.run.ensures rights))
 
 pub run-returns : goal.run-returns
 run-returns t c =

@@ -1,28 +1,22 @@
 -- `blocks::parse_token_conflict` meets its contract.
 -- Assumes nothing.
-use Rattle.declarations.proofs.BlocksLaws.{conflict-block, conflict_by, pair_two, conflict-nodes, conflict-made, next-refused, brace-refused, list_halt, list_onward, block_asks, block-given}
-use Rattle.parser.proofs.Ready.{ready_step}
-use Rattle.tokens.proofs.Stops.{stopped}
+use Rattle.tokens.specs.Promise.{start_in}
 use Rattle.tree.specs.Stored.{reference_branch, token_conflict_branch}
+use Rattle.parser.specs.Storing.{nodes_of}
+use Rattle.parser.specs.Lists.{stored_all}
+use Rattle.declarations.proofs.BlocksLaws.{few-stored, block_back, pair_by, conflict-block, conflict-made}
+use Rattle.declarations.specs.Promise.{conflict_pair}
 use Rattle.declarations.proofs.blocks.parse_token_conflict.Goals as goal
 
-pub returns-in_err-keyword-clause-parses : goal.returns-in_err-keyword-clause-parses
-returns-in_err-keyword-clause-parses c = rw (stopped c.from_residual.result c.from_residual.ensures.1) (next-refused (conflict-block _ c.args.token) c.in_err-keyword.ensures.0)
-
-pub returns-in_err-opened-clause-parses : goal.returns-in_err-opened-clause-parses
-returns-in_err-opened-clause-parses c = rw (stopped c.from_residual-in_err-opened.result c.from_residual-in_err-opened.ensures.1) (brace-refused (conflict-block _ c.args.token) c.in_ok-keyword.ensures c.in_err-opened.ensures)
-
-pub conflict_pair-requires : goal.conflict_pair-requires
-conflict_pair-requires c = ready_step c.requires.0 (list_onward (conflict-block _ c.args.token) c.in_ok-keyword.ensures c.in_ok-opened.ensures c.requires.1 c.requires.0.lies)
-
-pub returns-in_err-closed-clause-parses : goal.returns-in_err-closed-clause-parses
-returns-in_err-closed-clause-parses c = rw (stopped c.from_residual-in_err-closed.result c.from_residual-in_err-closed.ensures.1) (list_halt (conflict-block _ c.args.token) c.in_ok-keyword.ensures c.in_ok-opened.ensures c.in_err-closed.ensures.parses)
-
-pub put_plain-requires : goal.put_plain-requires
-put_plain-requires c = block_asks (conflict-block _ c.args.token) c.in_ok-keyword.ensures c.in_ok-opened.ensures c.requires.0 c.requires.1 reference_branch c.in_ok-closed.ensures.parses c.start.ensures
+pub block-requires : goal.block-requires
+block-requires c =
+    record {
+      ready = c.requires;
+      calls = λ b t m e h. rw e h;
+      reads = (stored_all (nodes_of reference_branch) conflict_pair, λ b t m r n e h p. few-stored reference_branch 2 conflict_pair _ b t m n r e h p.1.0 p.1.1);
+    }
 
 pub returns-clause-parses : goal.returns-clause-parses
 returns-clause-parses c =
-    let l = c.in_ok-closed.ensures.parses in
-    let p = pair_two _ l.gives in
-    block-given (conflict-block _ c.args.token) c.in_ok-keyword.ensures c.in_ok-opened.ensures c.requires.1 c.requires.0.lies reference_branch token_conflict_branch 10 l (conflict_by _ p.left p.right) (conflict-made _ p.left p.right _ p.are) (conflict-nodes _ p.left p.right p.are) c.start.ensures c.put_plain.ensures.stores
+    block_back reference_branch token_conflict_branch 10 conflict_pair (pair_by (start_in c.args.token)) c.args.source.now c.args.token _ _ c.block.result (conflict-block _ c.args.token) (λ xs us e. conflict-made _ xs _ us e)
+    (c.block.ensures.parses (stored_all (nodes_of reference_branch) conflict_pair) (λ b t m r n e h p. few-stored reference_branch 2 conflict_pair _ b t m n r e h p.1.0 p.1.1))

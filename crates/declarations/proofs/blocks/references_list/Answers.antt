@@ -1,47 +1,47 @@
 -- `blocks::references_list` meets its contract.
 -- Assumes nothing.
-use Rattle.error.specs.Causes.{bad_precedence}
-use Rattle.notation.specs.Declarations.{parse_token_reference}
-use Rattle.parser.proofs.Lists.{listing_start}
-use Rattle.parser.proofs.Openings.{item-onward, list_closed, list_refused, item_refused, item-more}
-use Rattle.parser.proofs.Ready.{ready_step, ready_on, listing-small}
-use Rattle.parser.proofs.Stored.{kept_here, kept_then}
-use Rattle.parser.specs.declared.props.Comma.TheVariants.{May}
-use Rattle.tokens.proofs.Stops.{stopped}
-use Rattle.tree.specs.Stored.{reference_branch}
-use mathlib.Core.Path.{refl}
 use native.Mathlib.Omega.{arith}
+use mathlib.Core.Path.{refl}
+use Rattle.std.proofs.Common.{rules}
+use Rattle.error.specs.Causes.{bad_precedence}
+use Rattle.tree.specs.Stored.{reference_branch}
+use Rattle.notation.specs.Parser.{eat}
+use Rattle.notation.specs.Declarations.{parse_token_reference}
+use Rattle.tokens.specs.Promise.{stream}
+use Rattle.parser.specs.Storing.{lent_of, Kept, nodes_of}
+use Rattle.parser.specs.Steps.{Parses, between_by}
+use Rattle.parser.specs.Lists.{Listed, stored}
+use Rattle.parser.specs.declared.props.Comma.TheVariants.{May}
+use Rattle.parser.proofs.ByNodes.{one-stored, list_back}
 use Rattle.declarations.proofs.blocks.references_list.Goals as goal
 
-pub loop-after-init : goal.loop-after-init
-loop-after-init c = record { kept = kept_here _; listing = listing_start _ _ _ _ _ _ c.requires.lies }
+abbrev items : Listed
+items = record { mark = "}"; item = stored (nodes_of reference_branch) (parse_token_reference bad_precedence) }
 
-pub opening-requires : goal.opening-requires
-opening-requires c = (c.loop-after.invariant.listing.onward.lies, omega arith)
-
-pub returns-in_err-after-clause-parses : goal.returns-in_err-after-clause-parses
-returns-in_err-after-clause-parses c = rw (stopped c.from_residual.result c.from_residual.ensures.1) (list_refused "}" May (λ _. parse_token_reference bad_precedence) c.loop-after.invariant.listing c.in_err-after.ensures)
-
-pub returns-in-Closed-clause-parses : goal.returns-in-Closed-clause-parses
-returns-in-Closed-clause-parses c = list_closed "}" May (λ _. parse_token_reference bad_precedence) c.loop-after.invariant.listing (rw c.in-Closed.is at c.in_ok-after.ensures) (omega arith)
-
-pub parse_token_reference-requires : goal.parse_token_reference-requires
-parse_token_reference-requires c =
-    let l = c.loop-after.invariant.listing in
-    ready_step (ready_on c.requires l.onward l.lays) (item-onward "}" (rw c.in-Item.is at c.in_ok-after.ensures))
-
-pub returns-in_err-t-in-Item-clause-parses : goal.returns-in_err-t-in-Item-clause-parses
-returns-in_err-t-in-Item-clause-parses c = rw (stopped c.from_residual-in_err-t-in-Item.result c.from_residual-in_err-t-in-Item.ensures.1) (item_refused "}" May (λ _. parse_token_reference bad_precedence) c.loop-after.invariant.listing (rw c.in-Item.is at c.in_ok-after.ensures) refl c.in_err-t-in-Item.ensures.parses)
-
-pub overflow_add-count : goal.overflow_add-count
-overflow_add-count c = omega (arith, listing-small reference_branch c.loop-after.invariant.listing c.requires.small (omega arith))
-
-pub loop-after-smaller : goal.loop-after-smaller
-loop-after-smaller c = omega (arith, (item-more "}" May (λ _. parse_token_reference bad_precedence) c.loop-after.invariant.listing (rw c.in-Item.is at c.in_ok-after.ensures) refl c.in_ok-t-in-Item.ensures.parses).0.fewer)
-
-pub loop-after-preserved : goal.loop-after-preserved
-loop-after-preserved c =
+pub until-requires : goal.until-requires
+until-requires c =
     record {
-      kept = kept_then c.loop-after.invariant.kept c.parse_token_reference.ensures.kept;
-      listing = (item-more "}" May (λ _. parse_token_reference bad_precedence) c.loop-after.invariant.listing (rw c.in-Item.is at c.in_ok-after.ensures) refl c.in_ok-t-in-Item.ensures.parses).1;
+      ready = c.requires;
+      calls = λ b t m e h. search rules;
+      reads = (
+        items,
+        record {
+          is = refl;
+          some = omega arith;
+          each = λ b t m r n e h p.
+              let q : Kept m.now n.now × Parses (parse_token_reference bad_precedence (stream b.now t)) (nodes_of reference_branch) b.now t (lent_of m.now) (lent_of n.now) r = search rules in
+              one-stored (nodes_of reference_branch) (parse_token_reference bad_precedence) _ b t m n r e q.0 q.1;
+        },
+      );
     }
+
+pub returns-clause-parses : goal.returns-clause-parses
+returns-clause-parses c =
+    list_back (nodes_of reference_branch) (eat "}") (between_by May) (parse_token_reference bad_precedence) c.args.source.now c.args.token 1 _ _ c.until.result
+    (c.until.ensures.parses items (record {
+      is = refl;
+      some = omega arith;
+      each = λ b t m r n e h p.
+          let q : Kept m.now n.now × Parses (parse_token_reference bad_precedence (stream b.now t)) (nodes_of reference_branch) b.now t (lent_of m.now) (lent_of n.now) r = search rules in
+          one-stored (nodes_of reference_branch) (parse_token_reference bad_precedence) _ b t m n r e q.0 q.1;
+    }))

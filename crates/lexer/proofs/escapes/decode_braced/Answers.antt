@@ -1,23 +1,24 @@
 -- `lexer::escapes::decode_braced` meets its contract. Assumes nothing.
 use native.Mathlib.Omega.{arith}
 use mathlib.Core.Path.{sym, ◌∙◌}
+use Rattle.characters.proofs.Chars.{eq_yes, eq_no, ne_yes, ne_no}
 use Rattle.lexer.proofs.Escaped.{braced_not, braced-next, braced-empty, braced-on}
 use Rattle.lexer.proofs.escapes.decode_braced.Goals as goal
-use Rattle.lexer.proofs.escapes.decode_braced.Goals.{then-peek-ne123-via-then-peek-ne123, then-peek-ne123-via-else-peek-ne123+then-peek-eq125}
+use Rattle.lexer.proofs.escapes.decode_braced.Goals.{then-ne-via-then-ne, then-ne-via-else-ne+then-eq}
 
-pub returns-then-peek-ne123 : goal.returns-then-peek-ne123
-returns-then-peek-ne123 c = elim c.then-peek-ne123.branch [
-  | then-peek-ne123-via-then-peek-ne123 w ↦ sym (braced_not _ _ (λ q. w.if-peek-ne123.true (c.peek.ensures ∙ q)))
-  | then-peek-ne123-via-else-peek-ne123+then-peek-eq125 w ↦
-      sym (braced-empty _ _ (sym c.peek.ensures ∙ w.if-peek-ne123.false) (sym w.peek-else-peek-ne123.ensures ∙ w.if-peek-eq125.true))
+pub returns-then-ne : goal.returns-then-ne
+returns-then-ne c = elim c.then-ne.branch [
+  | then-ne-via-then-ne w ↦ sym (braced_not _ _ (ne_yes _ _ c.peek.ensures (omega arith) c.ne.ensures w.if-ne.true))
+  | then-ne-via-else-ne+then-eq w ↦
+      sym (braced-empty _ _ (ne_no _ _ c.peek.ensures (omega arith) c.ne.ensures w.if-ne.false) (eq_yes _ _ w.peek-else-ne.ensures (omega arith) w.eq.ensures w.if-eq.true))
 ]
 
 pub overflow_add-from : goal.overflow_add-from
-overflow_add-from c = let i = (braced-next _ _ (sym c.peek.ensures ∙ c.if-peek-ne123.false)).inside in omega arith
+overflow_add-from c = let i = (braced-next _ _ (ne_no _ _ c.peek.ensures (omega arith) c.ne.ensures c.if-ne.false)).inside in omega arith
 
 pub overflow_add-from-2 : goal.overflow_add-from-2
-overflow_add-from-2 c = let i = (braced-next _ _ (sym c.peek.ensures ∙ c.if-peek-ne123.false)).inside in omega arith
+overflow_add-from-2 c = let i = (braced-next _ _ (ne_no _ _ c.peek.ensures (omega arith) c.ne.ensures c.if-ne.false)).inside in omega arith
 
 pub returns : goal.returns
 returns c = c.decode_hex_scalar.ensures
-    ∙ sym (braced-on _ _ (sym c.peek.ensures ∙ c.if-peek-ne123.false) (λ q. c.if-peek-eq125.false (c.peek-else-peek-ne123.ensures ∙ q)))
+    ∙ sym (braced-on _ _ (ne_no _ _ c.peek.ensures (omega arith) c.ne.ensures c.if-ne.false) (eq_no _ _ c.peek-else-ne.ensures (omega arith) c.eq.ensures c.if-eq.false))

@@ -2,35 +2,34 @@
 use Prim.Native.Nat.{◌+◌, ◌-◌}
 use native.Mathlib.Omega.{arith}
 use mathlib.Core.Path.{◌≡◌, sym, ◌∙◌}
-use Rattle.lexer.proofs.Escaped.{digit_at_lem, greater, fixed-step, fixed_not, fixed-end}
+use Rattle.characters.proofs.Chars.{first_is, first_none}
+use Rattle.lexer.proofs.Escaped.{digit_at_lem, greater, fixed-step, fixed_not, fixed-out, fixed-end}
 use Rattle.lexer.proofs.escapes.decode_fixed_hex.Goals as goal
-
-pub loop-i-init : goal.loop-i-init
-loop-i-init c =
-    let e : c.args.from + 0 ≡ c.args.from = omega arith in
-    let f : c.args.k - 0 ≡ c.args.k = omega arith in
-    (omega arith, omega arith, rw (e, f))
 
 pub returns-in_err-d : goal.returns-in_err-d
 returns-in_err-d c =
-    c.from_residual.ensures ∙ sym (fixed_not _ _ (c.args.k - c.loop-i.i) _ _ (omega arith) c.peek.ensures (sym c.in_err-d.was ∙ c.hex_digit.ensures))
+    c.from_residual-in_err-d.ensures ∙ sym (fixed_not _ _ (c.args.k - c.loop-i.i) _ _ (omega arith) (first_is _ _ (sym c.in_ok-c.was ∙ c.peek.ensures)) (sym c.in_err-d.was ∙ c.hex_digit.ensures))
     ∙ c.loop-i.invariant.2
+
+pub returns-in_err-c : goal.returns-in_err-c
+returns-in_err-c c =
+    c.from_residual.ensures ∙ sym (fixed-out _ _ (c.args.k - c.loop-i.i) _ (omega arith) (first_none _ _ (sym c.in_err-c.was ∙ c.peek.ensures))) ∙ c.loop-i.invariant.2
 
 pub overflow_mul-v : goal.overflow_mul-v
 overflow_mul-v c =
-    let z = (digit_at_lem _ _ _ _ c.peek.ensures (sym c.in_ok-d.was ∙ c.hex_digit.ensures)).small in
+    let z = (digit_at_lem _ _ _ _ (first_is _ _ (sym c.in_ok-c.was ∙ c.peek.ensures)) (sym c.in_ok-d.was ∙ c.hex_digit.ensures)).small in
     let q = greater (c.args.k - c.loop-i.i) _ _ (omega arith) (omega arith) c.loop-i.invariant.1 z in
     omega arith
 
 pub overflow_add-v : goal.overflow_add-v
 overflow_add-v c =
-    let z = (digit_at_lem _ _ _ _ c.peek.ensures (sym c.in_ok-d.was ∙ c.hex_digit.ensures)).small in
+    let z = (digit_at_lem _ _ _ _ (first_is _ _ (sym c.in_ok-c.was ∙ c.peek.ensures)) (sym c.in_ok-d.was ∙ c.hex_digit.ensures)).small in
     let q = greater (c.args.k - c.loop-i.i) _ _ (omega arith) (omega arith) c.loop-i.invariant.1 z in
     omega arith
 
 pub loop-i-preserved : goal.loop-i-preserved
 loop-i-preserved c =
-    let g = digit_at_lem _ _ _ _ c.peek.ensures (sym c.in_ok-d.was ∙ c.hex_digit.ensures) in
+    let g = digit_at_lem _ _ _ _ (first_is _ _ (sym c.in_ok-c.was ∙ c.peek.ensures)) (sym c.in_ok-d.was ∙ c.hex_digit.ensures) in
     let n = g.next.inside in
     let q = greater (c.args.k - c.loop-i.i) _ _ (omega arith) (omega arith) c.loop-i.invariant.1 g.small in
     let e : c.args.k - (c.loop-i.i + 1) ≡ c.args.k - c.loop-i.i - 1 = omega arith in

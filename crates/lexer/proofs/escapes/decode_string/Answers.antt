@@ -1,10 +1,7 @@
 -- `lexer::escapes::decode_string` meets its contract. Assumes nothing.
 use native.Mathlib.Omega.{arith}
-use Rattle.lexer.proofs.Escaped.{value-end, value_on, decoding, decoded, step}
+use Rattle.lexer.proofs.Escaped.{value-end, value_on, decoded, step}
 use Rattle.lexer.proofs.escapes.decode_string.Goals as goal
-
-pub loop-c-init : goal.loop-c-init
-loop-c-init c = decoding _ _
 
 pub overflow_add-n : goal.overflow_add-n
 overflow_add-n c = let v = value_on _ _ _ _ c.set_atom.ensures c.in-Some.is in

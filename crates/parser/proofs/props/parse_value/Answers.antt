@@ -1,26 +1,29 @@
 -- `props::parse_value` meets its contract.
 -- Assumes nothing.
 use native.Mathlib.Omega.{arith}
-use Rattle.tokens.proofs.Stops.{stopped}
+use mathlib.Core.Path.{refl}
 use Rattle.tree.specs.Stored.{part_branch}
+use Rattle.notation.specs.Parser.{loop}
+use Rattle.notation.specs.Expressions.{parse_part}
 use Rattle.parser.specs.Storing.{nodes_of}
 use Rattle.parser.specs.Steps.{parse_value}
-use Rattle.parser.proofs.Ready.{ready_step}
-use Rattle.parser.proofs.Onward.{eat-onward}
-use Rattle.parser.proofs.Openings.{optional-none, optional-refused, optional_list}
+use Rattle.parser.specs.Lists.{Marked, stored_all}
+use Rattle.parser.proofs.ByNodes.{all-stored, optional_back}
 use Rattle.parser.proofs.props.parse_value.Goals as goal
 
-pub returns-in_err-after-clause-parses : goal.returns-in_err-after-clause-parses
-unfolding parse_value
-returns-in_err-after-clause-parses c = rw (stopped c.from_residual.result c.from_residual.ensures.1) (optional-refused "=" _ (nodes_of part_branch) _ _ c.requires.lies (omega arith) c.in_err-after.ensures)
+abbrev parts : Marked
+parts = record { mark = "="; inside = stored_all (nodes_of part_branch) (loop parse_part) }
 
-pub parse_parts-requires : goal.parse_parts-requires
-parse_parts-requires c = ready_step c.requires (eat-onward _ "=" _ (omega arith) c.requires.lies (rw c.in-Some.is at c.in_ok-after.ensures))
+pub optional-requires : goal.optional-requires
+optional-requires c =
+    record {
+      ready = c.requires;
+      calls = λ b t m e h. rw e h;
+      reads = (parts, record { is = refl; some = omega arith; all = λ b t m r n e h p. all-stored (nodes_of part_branch) 0 (loop parse_part) _ b t m n r e p.1.0 p.1.1 });
+    }
 
-pub returns-in-Some-clause-parses : goal.returns-in-Some-clause-parses
+pub returns-clause-parses : goal.returns-clause-parses
 unfolding parse_value
-returns-in-Some-clause-parses c = optional_list "=" _ (nodes_of part_branch) _ _ c.requires.lies (omega arith) (rw c.in-Some.is at c.in_ok-after.ensures) 0 _ _ c.parse_parts.result c.parse_parts.ensures.parses
-
-pub returns-in-None-clause-parses : goal.returns-in-None-clause-parses
-unfolding parse_value
-returns-in-None-clause-parses c = optional-none "=" _ (nodes_of part_branch) _ _ c.requires.lies (omega arith) _ (rw c.in-None.is at c.in_ok-after.ensures)
+returns-clause-parses c =
+    optional_back (nodes_of part_branch) "=" (loop parse_part) c.args.source.now c.args.token 0 _ _ c.optional.result
+    (c.optional.ensures.parses parts (record { is = refl; some = omega arith; all = λ b t m r n e h p. all-stored (nodes_of part_branch) 0 (loop parse_part) _ b t m n r e p.1.0 p.1.1 }))

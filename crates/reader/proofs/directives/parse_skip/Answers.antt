@@ -21,12 +21,12 @@ parse_scoped-requires c =
     let g = c.in_ok-inside.ensures.parses in
     (roomy_on (roomy_step c.requires.0 (past-onward _ _ _ c.in_ok-keyword.ensures c.requires.1 c.requires.0.lies)) g.yields.onward g.yields.lays, g.yields.shown.small)
 
-pub returns-then-mark-eq123-clause-declares : goal.returns-then-mark-eq123-clause-declares
-returns-then-mark-eq123-clause-declares c =
-    scoped_declared c.args.seen _ c.args.token _ c.in_ok-keyword.ensures c.in_ok-inside.ensures.parses c.mark.ensures c.requires.1 c.requires.0.lies c.if-mark-eq123.true _ c.parse_scoped.result c.parse_scoped.ensures.scopes
+pub returns-then-mark-clause-declares : goal.returns-then-mark-clause-declares
+returns-then-mark-clause-declares c =
+    scoped_declared c.args.seen _ c.args.token _ c.in_ok-keyword.ensures c.in_ok-inside.ensures.parses c.mark.ensures c.requires.1 c.requires.0.lies c.if-mark.true _ c.parse_scoped.result c.parse_scoped.ensures.scopes
 
 pub returns-then-seen-clause-declares : goal.returns-then-seen-clause-declares
-returns-then-seen-clause-declares c = second-refused c.args.seen _ c.args.token _ c.in_ok-keyword.ensures c.in_ok-inside.ensures.parses c.mark.ensures c.if-mark-eq123.false c.if-seen.true c.start.ensures
+returns-then-seen-clause-declares c = second-refused c.args.seen _ c.args.token _ c.in_ok-keyword.ensures c.in_ok-inside.ensures.parses c.mark.ensures c.if-mark.false c.if-seen.true c.start.ensures
 
 pub put_plain-requires : goal.put_plain-requires
 put_plain-requires c =
@@ -36,4 +36,4 @@ put_plain-requires c =
 pub returns-clause-declares : goal.returns-clause-declares
 returns-clause-declares c =
     rw c.of_kind.ensures
-    (main_declared c.args.seen _ c.args.token _ c.in_ok-keyword.ensures c.in_ok-inside.ensures.parses c.mark.ensures c.requires.1 c.requires.0.lies c.if-mark-eq123.false c.if-seen.false c.put_plain.ensures.stores)
+    (main_declared c.args.seen _ c.args.token _ c.in_ok-keyword.ensures c.in_ok-inside.ensures.parses c.mark.ensures c.requires.1 c.requires.0.lies c.if-mark.false c.if-seen.false c.put_plain.ensures.stores)

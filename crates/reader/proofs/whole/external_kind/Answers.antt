@@ -1,32 +1,19 @@
 -- `whole::external_kind` meets its contract.
 -- Assumes nothing.
-use mathlib.Core.Path.{refl}
-use Rattle.basics.specs.Basics.{every}
-use Rattle.reader.specs.Ahead.{external_kind}
-use Rattle.reader.proofs.TopLaws.{says-word}
+use Rattle.reader.proofs.WordLaws.{external-kind-by}
 use Rattle.reader.proofs.whole.external_kind.Goals as goal
-use Rattle.reader.proofs.whole.external_kind.Goals.{then-says-3-via-then-says-3, then-says-3-via-else-says-3+then-says-4}
 
-pub returns-then-says : goal.returns-then-says
-unfolding every external_kind
-returns-then-says c = rw (external_kind, says-word "tokens" refl c.says.ensures refl c.if-says.true)
+pub returns-in-Some-Tokens : goal.returns-in-Some-Tokens
+returns-in-Some-Tokens c = rw (external-kind-by, ← c.which_external.ensures, c.in-Some-Tokens.is, c.in-Some-Tokens.field-0-is)
 
-pub returns-then-says-2 : goal.returns-then-says-2
-unfolding every external_kind
-returns-then-says-2 c = rw (external_kind, says-word "tokens" refl c.says.ensures refl c.if-says.false, says-word "prop" refl c.says-2.ensures refl c.if-says-2.true)
+pub returns-in-Some-Prop : goal.returns-in-Some-Prop
+returns-in-Some-Prop c = rw (external-kind-by, ← c.which_external.ensures, c.in-Some-Prop.is, c.in-Some-Prop.field-0-is)
 
-pub returns-then-says-3 : goal.returns-then-says-3
-unfolding every external_kind
-returns-then-says-3 c =
-    elim c.then-says-3.branch [
-      | then-says-3-via-then-says-3 w ↦ rw (external_kind, says-word "tokens" refl c.says.ensures refl c.if-says.false, says-word "prop" refl c.says-2.ensures refl c.if-says-2.false, says-word "extend" refl c.says-3.ensures refl w.if-says-3.true)
-      | then-says-3-via-else-says-3+then-says-4 w ↦ rw (external_kind, says-word "tokens" refl c.says.ensures refl c.if-says.false, says-word "prop" refl c.says-2.ensures refl c.if-says-2.false, says-word "extend" refl c.says-3.ensures refl w.if-says-3.false, says-word "specialize" refl w.says-else-says-3.ensures refl w.if-says-4.true)
-    ]
+pub returns-in-Some-Specializer : goal.returns-in-Some-Specializer
+returns-in-Some-Specializer c = rw (external-kind-by, ← c.which_external.ensures, c.in-Some-Specializer.is, c.in-Some-Specializer.field-0-is)
 
-pub returns-then-says-5 : goal.returns-then-says-5
-unfolding every external_kind
-returns-then-says-5 c = rw (external_kind, says-word "tokens" refl c.says.ensures refl c.if-says.false, says-word "prop" refl c.says-2.ensures refl c.if-says-2.false, says-word "extend" refl c.says-3.ensures refl c.if-says-3.false, says-word "specialize" refl c.says-else-says-3.ensures refl c.if-says-4.false, says-word "propSource" refl c.says-4.ensures refl c.if-says-5.true)
+pub returns-in-Some-PropSource : goal.returns-in-Some-PropSource
+returns-in-Some-PropSource c = rw (external-kind-by, ← c.which_external.ensures, c.in-Some-PropSource.is, c.in-Some-PropSource.field-0-is)
 
-pub returns : goal.returns
-unfolding every external_kind
-returns c = rw (external_kind, says-word "tokens" refl c.says.ensures refl c.if-says.false, says-word "prop" refl c.says-2.ensures refl c.if-says-2.false, says-word "extend" refl c.says-3.ensures refl c.if-says-3.false, says-word "specialize" refl c.says-else-says-3.ensures refl c.if-says-4.false, says-word "propSource" refl c.says-4.ensures refl c.if-says-5.false)
+pub returns-in-None : goal.returns-in-None
+returns-in-None c = rw (external-kind-by, ← c.which_external.ensures, c.in-None.is)

@@ -1,48 +1,39 @@
 -- `whole::kind_ahead` meets its contract.
 -- Assumes nothing.
 use mathlib.Core.Path.{refl}
-use Rattle.basics.specs.Basics.{every}
-use Rattle.reader.specs.Ahead.{keyword_kind}
-use Rattle.reader.proofs.TopLaws.{says-word}
 use Rattle.reader.proofs.AheadLaws.{ahead-by, plain-none, plain-some}
+use Rattle.reader.proofs.WordLaws.{keyword-by}
 use Rattle.reader.proofs.whole.kind_ahead.Goals as goal
 
-pub returns-then-says : goal.returns-then-says
-unfolding every keyword_kind
-returns-then-says c = rw (ahead-by _ c.args.token, keyword_kind, says-word "top" refl c.says.ensures c.at-at.ensures c.if-says.true)
+pub returns-in-Some-Top : goal.returns-in-Some-Top
+returns-in-Some-Top c = rw (ahead-by _ c.args.token, keyword-by, ← c.at-at.ensures, ← c.which_directive.ensures, c.in-Some-Top.is, c.in-Some-Top.field-0-is)
 
-pub returns-then-says-2 : goal.returns-then-says-2
-unfolding every keyword_kind
-returns-then-says-2 c = rw (ahead-by _ c.args.token, keyword_kind, says-word "top" refl c.says.ensures c.at-at.ensures c.if-says.false, says-word "tokens" refl c.says-2.ensures c.at-at.ensures c.if-says-2.true)
+pub returns-in-Some-Tokens : goal.returns-in-Some-Tokens
+returns-in-Some-Tokens c = rw (ahead-by _ c.args.token, keyword-by, ← c.at-at.ensures, ← c.which_directive.ensures, c.in-Some-Tokens.is, c.in-Some-Tokens.field-0-is)
 
-pub returns-then-says-3 : goal.returns-then-says-3
-unfolding every keyword_kind
-returns-then-says-3 c = rw (ahead-by _ c.args.token, keyword_kind, says-word "top" refl c.says.ensures c.at-at.ensures c.if-says.false, says-word "tokens" refl c.says-2.ensures c.at-at.ensures c.if-says-2.false, says-word "local" refl c.says-3.ensures c.at-at.ensures c.if-says-3.true)
+pub returns-in-Some-Local : goal.returns-in-Some-Local
+returns-in-Some-Local c = rw (ahead-by _ c.args.token, keyword-by, ← c.at-at.ensures, ← c.which_directive.ensures, c.in-Some-Local.is, c.in-Some-Local.field-0-is)
 
-pub returns-then-says-4 : goal.returns-then-says-4
-unfolding every keyword_kind
-returns-then-says-4 c = rw (ahead-by _ c.args.token, keyword_kind, says-word "top" refl c.says.ensures c.at-at.ensures c.if-says.false, says-word "tokens" refl c.says-2.ensures c.at-at.ensures c.if-says-2.false, says-word "local" refl c.says-3.ensures c.at-at.ensures c.if-says-3.false, says-word "context" refl c.says-4.ensures c.at-at.ensures c.if-says-4.true)
+pub returns-in-Some-Context : goal.returns-in-Some-Context
+returns-in-Some-Context c = rw (ahead-by _ c.args.token, keyword-by, ← c.at-at.ensures, ← c.which_directive.ensures, c.in-Some-Context.is, c.in-Some-Context.field-0-is)
 
-pub returns-then-says-5 : goal.returns-then-says-5
-unfolding every keyword_kind
-returns-then-says-5 c = rw (ahead-by _ c.args.token, keyword_kind, says-word "top" refl c.says.ensures c.at-at.ensures c.if-says.false, says-word "tokens" refl c.says-2.ensures c.at-at.ensures c.if-says-2.false, says-word "local" refl c.says-3.ensures c.at-at.ensures c.if-says-3.false, says-word "context" refl c.says-4.ensures c.at-at.ensures c.if-says-4.false, says-word "external" refl c.says-5.ensures c.at-at.ensures c.if-says-5.true) c.external_ahead.ensures
+pub returns-in-Some-External : goal.returns-in-Some-External
+returns-in-Some-External c = rw (ahead-by _ c.args.token, keyword-by, ← c.at-at.ensures, ← c.which_directive.ensures, c.in-Some-External.is, c.in-Some-External.field-0-is, c.external_ahead.ensures)
 
-pub returns-then-says-6 : goal.returns-then-says-6
-unfolding every keyword_kind
-returns-then-says-6 c = rw (ahead-by _ c.args.token, keyword_kind, says-word "top" refl c.says.ensures c.at-at.ensures c.if-says.false, says-word "tokens" refl c.says-2.ensures c.at-at.ensures c.if-says-2.false, says-word "local" refl c.says-3.ensures c.at-at.ensures c.if-says-3.false, says-word "context" refl c.says-4.ensures c.at-at.ensures c.if-says-4.false, says-word "external" refl c.says-5.ensures c.at-at.ensures c.if-says-5.false, says-word "dialects" refl c.says-6.ensures c.at-at.ensures c.if-says-6.true)
+pub returns-in-Some-Dialects : goal.returns-in-Some-Dialects
+returns-in-Some-Dialects c = rw (ahead-by _ c.args.token, keyword-by, ← c.at-at.ensures, ← c.which_directive.ensures, c.in-Some-Dialects.is, c.in-Some-Dialects.field-0-is)
 
-pub returns-then-says-7 : goal.returns-then-says-7
-unfolding every keyword_kind
-returns-then-says-7 c = rw (ahead-by _ c.args.token, keyword_kind, says-word "top" refl c.says.ensures c.at-at.ensures c.if-says.false, says-word "tokens" refl c.says-2.ensures c.at-at.ensures c.if-says-2.false, says-word "local" refl c.says-3.ensures c.at-at.ensures c.if-says-3.false, says-word "context" refl c.says-4.ensures c.at-at.ensures c.if-says-4.false, says-word "external" refl c.says-5.ensures c.at-at.ensures c.if-says-5.false, says-word "dialects" refl c.says-6.ensures c.at-at.ensures c.if-says-6.false, says-word "precedence" refl c.says-7.ensures c.at-at.ensures c.if-says-7.true)
+pub returns-in-Some-Precedence : goal.returns-in-Some-Precedence
+returns-in-Some-Precedence c = rw (ahead-by _ c.args.token, keyword-by, ← c.at-at.ensures, ← c.which_directive.ensures, c.in-Some-Precedence.is, c.in-Some-Precedence.field-0-is)
 
-pub returns-then-says-8 : goal.returns-then-says-8
-unfolding every keyword_kind
-returns-then-says-8 c = rw (ahead-by _ c.args.token, keyword_kind, says-word "top" refl c.says.ensures c.at-at.ensures c.if-says.false, says-word "tokens" refl c.says-2.ensures c.at-at.ensures c.if-says-2.false, says-word "local" refl c.says-3.ensures c.at-at.ensures c.if-says-3.false, says-word "context" refl c.says-4.ensures c.at-at.ensures c.if-says-4.false, says-word "external" refl c.says-5.ensures c.at-at.ensures c.if-says-5.false, says-word "dialects" refl c.says-6.ensures c.at-at.ensures c.if-says-6.false, says-word "precedence" refl c.says-7.ensures c.at-at.ensures c.if-says-7.false, says-word "detectDelim" refl c.says-8.ensures c.at-at.ensures c.if-says-8.true)
+pub returns-in-Some-DetectDelim : goal.returns-in-Some-DetectDelim
+returns-in-Some-DetectDelim c = rw (ahead-by _ c.args.token, keyword-by, ← c.at-at.ensures, ← c.which_directive.ensures, c.in-Some-DetectDelim.is, c.in-Some-DetectDelim.field-0-is)
+
+pub returns-in-Some-Skip : goal.returns-in-Some-Skip
+returns-in-Some-Skip c = rw (ahead-by _ c.args.token, keyword-by, ← c.at-at.ensures, ← c.which_directive.ensures, c.in-Some-Skip.is, c.in-Some-Skip.field-0-is)
 
 pub returns-then-is_none : goal.returns-then-is_none
-unfolding every keyword_kind
-returns-then-is_none c = rw (ahead-by _ c.args.token, keyword_kind, says-word "top" refl c.says.ensures c.at-at.ensures c.if-says.false, says-word "tokens" refl c.says-2.ensures c.at-at.ensures c.if-says-2.false, says-word "local" refl c.says-3.ensures c.at-at.ensures c.if-says-3.false, says-word "context" refl c.says-4.ensures c.at-at.ensures c.if-says-4.false, says-word "external" refl c.says-5.ensures c.at-at.ensures c.if-says-5.false, says-word "dialects" refl c.says-6.ensures c.at-at.ensures c.if-says-6.false, says-word "precedence" refl c.says-7.ensures c.at-at.ensures c.if-says-7.false, says-word "detectDelim" refl c.says-8.ensures c.at-at.ensures c.if-says-8.false) (plain-none _ _ c.at-at.ensures c.is_none.ensures c.if-is_none.true)
+returns-then-is_none c = rw (ahead-by _ c.args.token, keyword-by, ← c.at-at.ensures, ← c.which_directive.ensures, c.in-None.is) (plain-none c.args.source.now c.at-at.result refl c.is_none.ensures c.if-is_none.true)
 
-pub returns : goal.returns
-unfolding every keyword_kind
-returns c = rw (ahead-by _ c.args.token, keyword_kind, says-word "top" refl c.says.ensures c.at-at.ensures c.if-says.false, says-word "tokens" refl c.says-2.ensures c.at-at.ensures c.if-says-2.false, says-word "local" refl c.says-3.ensures c.at-at.ensures c.if-says-3.false, says-word "context" refl c.says-4.ensures c.at-at.ensures c.if-says-4.false, says-word "external" refl c.says-5.ensures c.at-at.ensures c.if-says-5.false, says-word "dialects" refl c.says-6.ensures c.at-at.ensures c.if-says-6.false, says-word "precedence" refl c.says-7.ensures c.at-at.ensures c.if-says-7.false, says-word "detectDelim" refl c.says-8.ensures c.at-at.ensures c.if-says-8.false) (plain-some _ _ c.at-at.ensures c.is_none.ensures c.if-is_none.false)
+pub returns-else-is_none : goal.returns-else-is_none
+returns-else-is_none c = rw (ahead-by _ c.args.token, keyword-by, ← c.at-at.ensures, ← c.which_directive.ensures, c.in-None.is) (plain-some c.args.source.now c.at-at.result refl c.is_none.ensures c.if-is_none.false)

@@ -1,6 +1,0 @@
--- `writer::class_before` meets its contract. Assumes nothing.
-use Rattle.writer.proofs.Texts.{class-none}
-use Rattle.writer.proofs.class_before.Goals as goal
-
-pub returns-in_err-kind_before : goal.returns-in_err-kind_before
-returns-in_err-kind_before c = rw c.from_residual.ensures (class-none c.requires.0 c.args.end c.requires.1 c.in_err-kind_before.ensures)

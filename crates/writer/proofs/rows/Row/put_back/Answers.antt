@@ -1,0 +1,16 @@
+-- `writer::rows::Row::put_back` meets its contract. Assumes nothing.
+use native.Mathlib.Omega.{arith}
+use Rattle.writer.specs.Walk.{back}
+use Rattle.output.proofs.Writes.{then}
+use Rattle.writer.proofs.Small.{bounded, close-small, ends-small, tail-small}
+use Rattle.writer.proofs.rows.Row.put_back.Goals as goal
+
+pub overflow_add-n : goal.overflow_add-n
+overflow_add-n c = omega (arith, bounded (rw c.close.ensures at c.put-n.ensures) (close-small _ _ _), bounded (rw c.ends.ensures at c.put-n-2.ensures) (ends-small _ _ _))
+
+pub overflow_add-result : goal.overflow_add-result
+overflow_add-result c = omega (arith, bounded (rw c.close.ensures at c.put-n.ensures) (close-small _ _ _), bounded (rw c.ends.ensures at c.put-n-2.ensures) (ends-small _ _ _), bounded (rw c.tail.ensures at c.put.ensures) (tail-small _ _))
+
+pub returns : goal.returns
+unfolding back
+returns c = then (then (rw (c.close.ensures, c.args.row.kinds, c.args.row.values, c.last_class.ensures) at c.put-n.ensures) c.upto-a.ensures (rw (c.ends.ensures, c.setting_of.ensures, c.args.self.kinds, c.args.row.kinds, c.args.row.values) at c.put-n-2.ensures)) c.upto-b.ensures (rw (c.tail.ensures, c.class.ensures, c.args.self.kinds, c.args.row.kinds) at c.put.ensures)
