@@ -19,12 +19,12 @@ use Rattle.writer.specs.Promise.{too_long}
 use Rattle.grammar.specs.Reading.{Reading, tree, stopped, reading, longest}
 use Rattle.grammar.specs.Calls as Calls
 use Rattle.basics.specs.Basics.{over}
-use Rattle.grammar.specs.Calls.{room_for, ReadOutcome, read_by, read, NormalOutcome, write_by, normal_by, normal}
+use Rattle.grammar.specs.Calls.{room_for, ReadOutcome, read_by, read, measure_by, measure, words_enough, bytes_enough, NormalOutcome, write_by, normal_by, normal}
 use Rattle.laws.specs.Demand3.{Accepted}
 use Rattle.laws.proofs.Demand3.{normal-texts-are-accepted, equal_when_trees_agree, agreeing_trees_take-the-same-room}
 use Rattle.laws.proofs.Calls.{Room, wrote, wrote-only}
-use Rattle.calls.specs.Promise.{read_outcome, ReadTo, normal_answer, normal_outcome, NormalTo}
-use Rattle.calls.specs.Demands.{ReadIsSettled, NormalTextIsSettled, StructurallyEqIsSettled, RefusedAs, StoredAs, Answers, ReadAnswersAsDefined, EqualExactlyWhenTreesAgree, Agreeing, NormalTextsAreTheirOwn, NormalTextIsWritten, NormalTextIsTooLong}
+use Rattle.calls.specs.Promise.{read_answer, read_outcome, ReadTo, Few, normal_answer, normal_outcome, NormalTo}
+use Rattle.calls.specs.Demands.{ReadIsSettled, NormalTextIsSettled, MeasureIsSettled, StructurallyEqIsSettled, AsMeasured, MeasureTellsWhatReadWill, RoomIsEnough, RefusedAs, StoredAs, Answers, ReadAnswersAsDefined, EqualExactlyWhenTreesAgree, Agreeing, NormalTextsAreTheirOwn, NormalTextIsWritten, NormalTextIsTooLong}
 use Rattle.std.specs.Prelude.{Result, Ok, Err}
 use Rattle.error.specs.declared.Refusal.{Refusal}
 use Rattle.reader.specs.declared.blocks.Extent.{Extent}
@@ -81,6 +81,9 @@ normal-text-is-settled s ws ts out r q vs us new xs ys other a b =
     let l = normal-same s ws ts out (room_for (length ws) (length ts) (reading s)) refl in
     (a ∙ sym b, ap (λ (o : NormalOutcome). length o.records) a ∙ l.0, ap (λ (o : NormalOutcome). length o.texts) a ∙ l.1, ap (λ (o : NormalOutcome). length o.output) a ∙ l.2)
 
+pub measure-is-settled : MeasureIsSettled
+measure-is-settled s r q a b = a ∙ sym b
+
 pub structurally_eq_is-settled : StructurallyEqIsSettled
 structurally_eq_is-settled ls lts rs rts r q a b = a ∙ sym b
 
@@ -112,6 +115,41 @@ module _ (s ws ts : List ℕ) (r : Result Extent Refusal) (vs us : List ℕ) (a 
 
 pub read-answers_as_defined : ReadAnswersAsDefined
 read-answers_as_defined s ws ts r vs us a = answers s ws ts r vs us a
+
+-- an answer of the code with these sizes
+stored_is : (r : Result Extent Refusal) (e : Extent) → read_answer r ≡ Calls.ReadAnswer.stored e.words e.bytes → r ≡ Ok e
+stored_is (Ok d) e q = let a : d.words ≡ e.words = cc in let b : d.bytes ≡ e.bytes = cc in rw (a, b)
+stored_is (Err f) e q = impossible (cc)
+
+module _ (s ws ts : List ℕ) (r : Result Extent Refusal) (vs us : List ℕ) (a : ReadTo s ws ts r vs us) where
+  as_measured : (m : Result Extent Refusal) (i : Reading) → reading s ≡ i → read_answer m ≡ measure_by s i → AsMeasured m (length ws) (length ts) r
+  as_measured (Ok e) (stopped n p) q b = impossible (cc)
+  as_measured (Ok e) (tree g) q b = λ h k.
+      let w : e.words ≡ length (grammar_words g) = cc in
+      let x : e.bytes ≡ length (grammar_texts g) = cc in
+      stored_is r e (rw (w, x) ((answers s ws ts r vs us a).stores g q (rw w at h) (rw x at k)).0)
+  as_measured (Err f) (stopped n p) q b = ((answers s ws ts r vs us a).refuses n p q).0 ∙ sym b
+  as_measured (Err f) (tree g) q b = impossible (cc)
+
+pub measure-tells_what_read_will : MeasureTellsWhatReadWill
+unfolding measure
+measure-tells_what_read_will s ws ts m r vs us b a = as_measured s ws ts r vs us a m (reading s) refl b
+
+-- whatever the reading gives, there is room for it
+module _ (s ws ts : List ℕ) (few : Few s) (h : words_enough (length s) ≤ length ws) (k : bytes_enough (length s) ≤ length ts) where
+  roomy : (r : Reading) → reading s ≡ r → room_for (length ws) (length ts) r ≡ r
+  unfolding room_for
+  roomy (stopped n p) e = refl
+  roomy (tree g) e =
+      let w = (few g e).0 in
+      let b = (few g e).1 in
+      rw (room_for, le-ltb (length ws) (length (grammar_words g)) (omega arith), le-ltb (length ts) (length (grammar_texts g)) (omega arith))
+
+pub room-is-enough : RoomIsEnough
+unfolding read normal
+room-is-enough s ws ts few h k =
+    let e = roomy s ws ts few h k (reading s) refl in
+    (ap (read_by s ws ts) e, λ out. ap (normal_by s ws ts out) e)
 
 -- ------------------------------------------------------------------ 3
 

@@ -1,6 +1,6 @@
 -- What the call `normal_text` comes to: refused with the reading, or by what is written of the tree that stands in what was lent.
 -- Assumes nothing.
-use Prim.Native.Nat.{ℕ, ◌+◌, ◌*◌, ◌≤◌}
+use Prim.Native.Nat.{ℕ, ◌≤◌}
 use native.Mathlib.Omega.{arith}
 use mathlib.Core.Path.{◌≡◌, refl, ap, sym, ◌∙◌}
 use mathlib.Core.Bool.{Bool, true, false}
@@ -67,23 +67,22 @@ same-sizes : {n x m y : ℕ} → Calls.ReadAnswer.stored n x ≡ Calls.ReadAnswe
 same-sizes e = (cc, cc)
 
 module _ (s ws ts vs us : List ℕ) (r : Extent) where
-  by-reading : (a : Reading) → room_for (length ws) (length ts) (reading s) ≡ a → read_outcome (Ok r) vs us ≡ read_by s ws ts a → r.words ≤ 28 * length s + 7 → Kept s ws ts vs us r
-  by-reading (stopped m p) q e few = apart (ap (λ (o : ReadOutcome). o.answer) e)
-  by-reading (tree g) q e few =
+  by-reading : (a : Reading) → room_for (length ws) (length ts) (reading s) ≡ a → read_outcome (Ok r) vs us ≡ read_by s ws ts a → Kept s ws ts vs us r
+  by-reading (stopped m p) q e = apart (ap (λ (o : ReadOutcome). o.answer) e)
+  by-reading (tree g) q e =
       let sizes = same-sizes (ap (λ (o : ReadOutcome). o.answer) e) in
       record {
         grammar = g;
         is = q;
         words = sizes.0;
         bytes = sizes.1;
-        few = few;
         records = ap (λ (o : ReadOutcome). o.records) e;
         texts = ap (λ (o : ReadOutcome). o.texts) e;
       }
 
-  pub kept : ReadTo s ws ts (Ok r) vs us → Few s (Ok r) → Kept s ws ts vs us r
+  pub kept : ReadTo s ws ts (Ok r) vs us → Kept s ws ts vs us r
   unfolding read
-  kept e few = by-reading (room_for (length ws) (length ts) (reading s)) refl e few
+  kept e = by-reading (room_for (length ws) (length ts) (reading s)) refl e
 
 -- the words and texts are those that the writer asks for
 module _ {s ws ts vs us : List ℕ} {r : Extent} (k : Kept s ws ts vs us r) where
@@ -93,14 +92,14 @@ module _ {s ws ts vs us : List ℕ} {r : Extent} (k : Kept s ws ts vs us r) wher
   pub kept-part : r.words ≡ length (take r.words vs)
   kept-part = let h = kept-inside in simp length-take (omega arith)
 
-  pub kept-stored : Stored (take r.words vs) us
+  pub kept-stored : Few s → Stored (take r.words vs) us
   unfolding longest
-  kept-stored =
+  kept-stored enough =
       let g = k.grammar in
       let front : take r.words vs ≡ grammar_words g = rw (k.words, k.records) (take-append_seam (grammar_words g) (drop (length (grammar_words g)) ws)) in
-      let l : length s ≤ 65535 = short s (roomed (length ws) (length ts) (reading s) k.is).is in
-      let e = k.words in
-      let few = k.few in
+      let is = (roomed (length ws) (length ts) (reading s) k.is).is in
+      let l : length s ≤ 65535 = short s is in
+      let few = (enough g is).0 in
       let f = ap length front in
       record { grammar = g; words = front; few = omega arith; more = drop (length (grammar_texts g)) ts; texts = k.texts }
 
@@ -154,7 +153,7 @@ module _ (s : List ℕ) {ws ts out new : List ℕ} where
   write_full does f i k vs us = full_by s out new vs us k.grammar (does k) f i (too_long longest (normal_text k.grammar) out) refl
 
 -- of the tree that was kept it is the call's
-pub normal-kept : {s ws ts vs us : List ℕ} {r : Extent} (k : Kept s ws ts vs us r) → (out new : List ℕ) (a : Result ℕ declared.Refusal)
+pub normal-kept : {s ws ts vs us : List ℕ} {r : Extent} (k : Kept s ws ts vs us r) → Few s → (out new : List ℕ) (a : Result ℕ declared.Refusal)
     → WriteTo s (take r.words vs) us out a new → NormalTo s ws ts out a vs us new
 unfolding normal normal_by kept-stored
-normal-kept {s} {ws} {ts} k out new a w = rw (k.is, k.records, k.texts) (w (kept-stored k) ws ts)
+normal-kept {s} {ws} {ts} k enough out new a w = rw (k.is, k.records, k.texts) (w (kept-stored k enough) ws ts)

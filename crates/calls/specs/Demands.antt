@@ -1,7 +1,7 @@
 -- The three demands, said of the calls: of every answer, and every content of what is lent, that keeps a call's promise. Statements
 -- only; their proofs are in `proofs/Demands.antt`.
 -- Assumes nothing.
-use Rattle.std.specs.Prelude.{ℕ, ◌≤◌, ◌<◌, ◌≡◌, Bool, true, List, Result, Ok, length, take}
+use Rattle.std.specs.Prelude.{ℕ, ◌≤◌, ◌<◌, ◌≡◌, Bool, true, List, Result, Ok, Err, length, take}
 use Rattle.error.specs.Causes.{records_full, texts_full, output_full}
 use Rattle.error.specs.Lines.{refusal_at}
 use Rattle.tree.specs.Syntax.{GrammarDeclaration}
@@ -12,7 +12,8 @@ use Rattle.writer.specs.Promise.{too_long}
 use Rattle.grammar.specs.Reading.{tree, stopped, reading, longest}
 use Rattle.grammar.specs.Calls as Calls
 use Rattle.basics.specs.Basics.{over}
-use Rattle.calls.specs.Promise.{read_answer, read_outcome, ReadTo, normal_answer, normal_outcome, NormalTo, compare_answer, CompareTo}
+use Rattle.error.specs.Promise.{refusal_of}
+use Rattle.calls.specs.Promise.{MeasureTo, read_answer, read_outcome, ReadTo, Few, normal_answer, normal_outcome, NormalTo, compare_answer, CompareTo}
 use Rattle.error.specs.declared.Refusal.{Refusal}
 use Rattle.reader.specs.declared.blocks.Extent.{Extent}
 
@@ -33,6 +34,10 @@ abbrev pub NormalTextIsSettled : Type 0
 NormalTextIsSettled =
     (s ws ts out : List ℕ) (r q : Result ℕ Refusal) (vs us new xs ys other : List ℕ) → NormalTo s ws ts out r vs us new → NormalTo s ws ts out q xs ys other
     → (normal_outcome r vs us new ≡ normal_outcome q xs ys other) × (length vs ≡ length ws) × (length us ≡ length ts) × (length new ≡ length out)
+
+-- Two runs of `measure` on the same text answer the same.
+abbrev pub MeasureIsSettled : Type 0
+MeasureIsSettled = (s : List ℕ) (r q : Result Extent Refusal) → MeasureTo s r → MeasureTo s q → read_answer r ≡ read_answer q
 
 -- Two runs of `structurally_eq` on the same arguments answer the same.
 abbrev pub StructurallyEqIsSettled : Type 0
@@ -60,6 +65,23 @@ pub record Answers (s ws ts : List ℕ) (r : Result Extent Refusal) (vs us : Lis
 -- Every answer of `read` is so.
 abbrev pub ReadAnswersAsDefined : Type 0
 ReadAnswersAsDefined = (s ws ts : List ℕ) (r : Result Extent Refusal) (vs us : List ℕ) → ReadTo s ws ts r vs us → Answers s ws ts r vs us
+
+-- what `read` answers where `measure` answers so: the same sizes where that much is lent, or the same refusal whatever is lent
+abbrev pub AsMeasured : Result Extent Refusal → (words bytes : ℕ) → Result Extent Refusal → Type 0
+AsMeasured (Ok e) words bytes r = e.words ≤ words → e.bytes ≤ bytes → r ≡ Ok e
+AsMeasured (Err f) words bytes r = read_answer r ≡ Calls.ReadAnswer.refused (refusal_of f)
+
+-- `measure` says what `read` will.
+abbrev pub MeasureTellsWhatReadWill : Type 0
+MeasureTellsWhatReadWill =
+    (s ws ts : List ℕ) (m r : Result Extent Refusal) (vs us : List ℕ) → MeasureTo s m → ReadTo s ws ts r vs us → AsMeasured m (length ws) (length ts) r
+
+-- With four records lent for each byte of the text and the grammar's own, and six bytes for each, want of room stops nothing: `read` and
+-- `normal_text` come to what the reading of the text gives. That a tree takes no more (`Few`) is a clause of both calls.
+abbrev pub RoomIsEnough : Type 0
+RoomIsEnough =
+    (s ws ts : List ℕ) → Few s → Calls.words_enough (length s) ≤ length ws → Calls.bytes_enough (length s) ≤ length ts
+    → (Calls.read s ws ts ≡ Calls.read_by s ws ts (reading s)) × ((out : List ℕ) → Calls.normal s ws ts out ≡ Calls.normal_by s ws ts out (reading s))
 
 -- ------------------------------------------------------------------ 3. normal texts
 

@@ -1,14 +1,15 @@
 -- What the values of the code stand for, and what the calls promise.
 -- Assumes nothing.
-use Rattle.std.specs.Prelude.{ℕ, ◌+◌, ◌*◌, ◌≤◌, ◌≡◌, Bool, List, Result, Ok, Err, length}
+use Rattle.std.specs.Prelude.{ℕ, ◌≤◌, ◌≡◌, Bool, List, Result, Ok, Err, length}
 use Rattle.error.specs.Promise.{cause_number, refusal_of}
 use Rattle.error.specs.declared.Refusal.{Refusal}
 use Rattle.error.specs.declared.Stop.{Stop}
 use Rattle.reader.specs.declared.blocks.Extent.{Extent}
+use Rattle.characters.specs.Utf8.{check}
 use Rattle.grammar.specs.Calls as Calls
 use Rattle.basics.specs.Basics.{over}
-use Rattle.grammar.specs.Reading.{tree, stopped, reading}
-use Rattle.grammar.specs.Calls.{room_for, ReadOutcome, read, NormalOutcome, write_by, normal, compare}
+use Rattle.grammar.specs.Reading.{tree, stopped, reading, longest}
+use Rattle.grammar.specs.Calls.{room_for, ReadOutcome, read, measure, words_enough, bytes_enough, NormalOutcome, write_by, normal, compare}
 use Rattle.tree.specs.Syntax.{GrammarDeclaration}
 use Rattle.tree.specs.Stored.{grammar_words, grammar_texts}
 use Rattle.writer.specs.Promise.{Stored}
@@ -42,13 +43,29 @@ normal_outcome r ws ts out = record { answer = normal_answer r; records = ws; te
 
 -- ------------------------------------------------------------------ what stops a reading, before its line is known
 
+-- a text is no longer than it may be and UTF-8, or that stops its reading
+abbrev pub CheckedTo : (text : List ℕ) → Result (Unit {0}) Stop → Type 0
+CheckedTo s (Ok checked) = (length s ≤ longest) × (check s ≡ Ok tt)
+CheckedTo s (Err e) = reading s ≡ stopped (cause_number e.cause) e.place
+
+-- how much the tree of a text takes
+pub record Sized (s : List ℕ) (r : Extent) : Type 0 where
+  pub grammar : GrammarDeclaration ℕ
+  pub is : reading s ≡ tree grammar
+  pub words : r.words ≡ length (grammar_words grammar)
+  pub bytes : r.bytes ≡ length (grammar_texts grammar)
+
+-- or the text stops its reading
+abbrev pub SizedTo : (text : List ℕ) → Result Extent Stop → Type 0
+SizedTo s (Ok r) = Sized s r
+SizedTo s (Err e) = reading s ≡ stopped (cause_number e.cause) e.place
+
 -- the tree of a text is stored, and there was room for it
 pub record Kept (s ws ts vs us : List ℕ) (r : Extent) : Type 0 where
   pub grammar : GrammarDeclaration ℕ
   pub is : room_for (length ws) (length ts) (reading s) ≡ tree grammar
   pub words : r.words ≡ length (grammar_words grammar)
   pub bytes : r.bytes ≡ length (grammar_texts grammar)
-  pub few : r.words ≤ 28 * length s + 7
   pub records : vs ≡ over (grammar_words grammar) ws
   pub texts : us ≡ over (grammar_texts grammar) ts
 
@@ -62,6 +79,10 @@ ReadingTo s ws ts (Err e) vs us = (room_for (length ws) (length ts) (reading s) 
 -- `read` on a text, with records and texts lent
 abbrev pub ReadTo : (text records texts : List ℕ) → Result Extent Refusal → (records_after texts_after : List ℕ) → Type 0
 ReadTo s ws ts r vs us = read_outcome r vs us ≡ read s ws ts
+
+-- `measure` on a text
+abbrev pub MeasureTo : (text : List ℕ) → Result Extent Refusal → Type 0
+MeasureTo s r = read_answer r ≡ measure s
 
 -- `normal_text` on a text, with records, texts and output lent
 abbrev pub NormalTo : (text records texts output : List ℕ) → Result ℕ Refusal → (records_after texts_after output_after : List ℕ) → Type 0
@@ -77,7 +98,7 @@ WriteTo s ws ts out r new =
 abbrev pub CompareTo : (left_records left_texts right_records right_texts : List ℕ) → Result Bool Refusal → Type 0
 CompareTo ls lts rs rts r = compare_answer r ≡ compare ls lts rs rts
 
--- a tree takes at most 28 words for each byte of its text, and 7
-abbrev pub Few : (text : List ℕ) → Result Extent Refusal → Type 0
-Few s (Ok r) = r.words ≤ 28 * length s + 7
-Few s (Err f) = Unit
+-- The tree of a text takes no more than so much: four records for each byte and the grammar's own, and six bytes for each. With that lent,
+-- want of room stops no reading (`RoomIsEnough`, Demands.antt).
+abbrev pub Few : (text : List ℕ) → Type 0
+Few s = (g : GrammarDeclaration ℕ) → reading s ≡ tree g → (length (grammar_words g) ≤ words_enough (length s)) × (length (grammar_texts g) ≤ bytes_enough (length s))

@@ -3,7 +3,7 @@
 #![tactic(auto)]
 
 ghost use Rattle.writer.specs.Promise.{Stored as StoredIn};
-ghost use Rattle.calls.specs.Promise.{ReadingTo, ReadTo, Few, WriteTo, NormalTo, CompareTo};
+ghost use Rattle.calls.specs.Promise.{CheckedTo, SizedTo, ReadingTo, MeasureTo, ReadTo, Few, WriteTo, NormalTo, CompareTo};
 
 use error::{Cause, Refusal, Stop};
 use reader::blocks::Extent;
@@ -12,9 +12,9 @@ use tree::Tree;
 // The most bytes that a text, or a normal text, may have.
 const LONGEST: usize = 65535;
 
-// The tree of a text, stored over the front of the words and bytes that are lent, or what stops its reading.
-fn parse(text: &[u8], records: &mut [u32], texts: &mut [u8]) -> Result<Extent, Stop>
-    ensures { ReadingTo text.now records.old texts.old result records.new texts.new }
+// A text that is too long, or not UTF-8, is not read.
+fn check_text(text: &[u8]) -> Result<(), Stop>
+    ensures { CheckedTo text.now result }
 {
     if LONGEST < text.len() {
         return Err(Stop {
@@ -23,7 +23,33 @@ fn parse(text: &[u8], records: &mut [u32], texts: &mut [u8]) -> Result<Extent, S
         });
     }
     characters::check(text)?;
+    Ok(())
+}
+
+// How many words and bytes the tree of a text takes, or what stops its reading.
+fn extent(text: &[u8]) -> Result<Extent, Stop>
+    ensures sizes { SizedTo text.now result }
+    ensures few { Few text.now }
+{
+    check_text(text)?;
+    input::measure(text)
+}
+
+// The tree of a text, stored over the front of the words and bytes that are lent, or what stops its reading.
+fn parse(text: &[u8], records: &mut [u32], texts: &mut [u8]) -> Result<Extent, Stop>
+    ensures reading { ReadingTo text.now records.old texts.old result records.new texts.new }
+    ensures few { Few text.now }
+{
+    check_text(text)?;
     input::parse(text, records, texts)
+}
+
+// How many words and bytes the tree of a text takes, or why there is none. Nothing is lent for it, and it is not stored.
+pub fn measure(text: &[u8]) -> Result<Extent, Refusal>
+    ensures outcome { MeasureTo text.now result }
+    ensures few { Few text.now }
+{
+    extent(text).map_err(|stop| error::refuse(text, stop))
 }
 
 // How many words and bytes the tree of a text takes, stored over the front of those that are lent, or why there is none. A refusal leaves
@@ -31,7 +57,7 @@ fn parse(text: &[u8], records: &mut [u32], texts: &mut [u8]) -> Result<Extent, S
 // value in its arms.
 pub fn read(text: &[u8], records: &mut [u32], texts: &mut [u8]) -> Result<Extent, Refusal>
     ensures outcome { ReadTo text.now records.old texts.old result records.new texts.new }
-    ensures few { Few text.now result }
+    ensures few { Few text.now }
 {
     match parse(text, records, texts) {
         Ok(stored) => Ok(stored),
@@ -63,7 +89,8 @@ pub fn normal_text(
     texts: &mut [u8],
     output: &mut [u8],
 ) -> Result<usize, Refusal>
-    ensures { NormalTo text.now records.old texts.old output.old result records.new texts.new output.new }
+    ensures outcome { NormalTo text.now records.old texts.old output.old result records.new texts.new output.new }
+    ensures few { Few text.now }
 {
     let stored = read(text, records, texts)?;
     let tree = Tree {

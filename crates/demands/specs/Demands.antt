@@ -1,7 +1,7 @@
 -- The three demands, and the theorems about definitions that they rest on. Each name here is the proof that a lower crate gives of a statement
 -- that its specs/ writes out: with a proof taken away this file does not check.
 -- Assumes nothing.
-use Rattle.calls.specs.Demands.{ReadIsSettled, NormalTextIsSettled, StructurallyEqIsSettled, ReadAnswersAsDefined, EqualExactlyWhenTreesAgree, NormalTextsAreTheirOwn, NormalTextIsWritten, NormalTextIsTooLong}
+use Rattle.calls.specs.Demands.{ReadIsSettled, NormalTextIsSettled, MeasureIsSettled, StructurallyEqIsSettled, ReadAnswersAsDefined, MeasureTellsWhatReadWill, RoomIsEnough, EqualExactlyWhenTreesAgree, NormalTextsAreTheirOwn, NormalTextIsWritten, NormalTextIsTooLong}
 use Rattle.calls.proofs.Demands as Calls
 use Rattle.laws.specs.Demand3.{NormalTextsAreAccepted, EqualWhenTreesAgree, AgreeingTreesTakeTheSameRoom, NormalOfItsOutput}
 use Rattle.laws.proofs.Demand3 as Laws
@@ -17,6 +17,10 @@ read-is-settled = Calls.read-is-settled
 pub normal-text-is-settled : NormalTextIsSettled
 normal-text-is-settled = Calls.normal-text-is-settled
 
+-- two runs of `measure` do
+pub measure-is-settled : MeasureIsSettled
+measure-is-settled = Calls.measure-is-settled
+
 -- two runs of `structurally_eq` do
 pub structurally_eq_is-settled : StructurallyEqIsSettled
 structurally_eq_is-settled = Calls.structurally_eq_is-settled
@@ -26,6 +30,14 @@ structurally_eq_is-settled = Calls.structurally_eq_is-settled
 -- every answer of `read`, with what it leaves in what is lent
 pub read-answers_as_defined : ReadAnswersAsDefined
 read-answers_as_defined = Calls.read-answers_as_defined
+
+-- what `measure` answers is what `read` will, where that much is lent
+pub measure-tells_what_read_will : MeasureTellsWhatReadWill
+measure-tells_what_read_will = Calls.measure-tells_what_read_will
+
+-- with room for four records a byte and the grammar's own, and for six bytes a byte, want of room stops nothing
+pub room-is-enough : RoomIsEnough
+room-is-enough = Calls.room-is-enough
 
 -- ------------------------------------------------------------------ demand 3: normal texts
 

@@ -1,6 +1,6 @@
 -- The library's calls: for any arguments, what each answers and what every lent buffer holds afterwards.
 -- Assumes nothing.
-use Rattle.std.specs.Prelude.{ℕ, Bool, ◌||◌, List, [], ltb, length}
+use Rattle.std.specs.Prelude.{ℕ, ◌+◌, ◌*◌, Bool, ◌||◌, List, [], ltb, length}
 use Rattle.std.proofs.Math.Option.{Option, none, some}
 use Rattle.basics.specs.Basics.{if◌then◌otherwise◌, over}
 use Rattle.error.specs.Causes.{records_full, texts_full, output_full, not_a_tree}
@@ -49,6 +49,26 @@ read_by text records texts (tree g) =
 unfoldable pub read : (text records texts : List ℕ) → ReadOutcome
 unfolding line_feeds line_start line_at column_at refusal_at reading room_for grammar_words grammar_texts
 read text records texts = read_by text records texts (room_for (length records) (length texts) (reading text))
+
+-- ------------------------------------------------------------------ measure
+
+-- by what the reading gave: how much its tree takes
+abbrev pub measure_by : (text : List ℕ) → Reading → ReadAnswer
+measure_by text (stopped n p) = refused (refusal_at text n p)
+measure_by text (tree g) = stored (length (grammar_words g)) (length (grammar_texts g))
+
+-- `measure`: how many words and bytes the tree of a text takes, with nothing lent
+unfoldable pub measure : (text : List ℕ) → ReadAnswer
+unfolding line_feeds line_start line_at column_at refusal_at reading grammar_words grammar_texts
+measure text = measure_by text (reading text)
+
+-- how many words are enough for any text of n bytes: four records for each byte, and the grammar's own
+abbrev pub words_enough : (n : ℕ) → ℕ
+words_enough n = 28 * n + 7
+
+-- and how many bytes
+abbrev pub bytes_enough : (n : ℕ) → ℕ
+bytes_enough n = 6 * n
 
 -- ------------------------------------------------------------------ normal text
 

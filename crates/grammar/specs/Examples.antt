@@ -2,7 +2,7 @@
 -- Assumes nothing.
 use Rattle.std.specs.Prelude.{ℕ, ◌≡◌, refl, true, false, List, [], ◌∷◌, ◌++◌, replicate}
 use Rattle.error.specs.Lines.{Refusal}
-use Rattle.grammar.specs.Calls.{ReadAnswer, stored, read, NormalAnswer, written, normal, CompareAnswer, compared, compare}
+use Rattle.grammar.specs.Calls.{ReadAnswer, stored, read, measure, NormalAnswer, written, normal, CompareAnswer, compared, compare}
 use Rattle.grammar.specs.Marked.{bytes}
 
 -- the refusal by a cause at place 0
@@ -48,6 +48,18 @@ pub cut_off :
     read (10 ∷ 0xE2 ∷ 0x82 ∷ []) [] [] ≡ record { answer = ReadAnswer.refused (record { cause = 2; place = 1; line = 2; column = 0 }); records = []; texts = [] }
 unfolding read
 cut_off = refl
+
+-- ------------------------------------------------------------------ measure
+
+-- three records, and one byte
+pub three_measured : measure (bytes "@top T{}") ≡ stored 21 1
+unfolding bytes measure
+three_measured = refl
+
+-- refused as `read` refuses
+pub none_measured : measure (bytes "\n@top") ≡ ReadAnswer.refused (record { cause = 9; place = 5; line = 2; column = 4 })
+unfolding bytes measure
+none_measured = refl
 
 -- ------------------------------------------------------------------ normal text
 

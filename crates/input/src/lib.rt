@@ -4,7 +4,7 @@
 ghost use Rattle.std.specs.Prelude.{◌≤◌, ◌≡◌, length};
 ghost use Rattle.notation.specs.Parser.{next as next_d};
 ghost use Rattle.tokens.specs.Promise.{stream, end_in, arrival, Lies};
-ghost use Rattle.reader.specs.Whole.{First, Reads};
+ghost use Rattle.reader.specs.Whole.{First, Measures, Reads};
 
 use error::Stop;
 use lexer::Token;
@@ -34,6 +34,14 @@ impl<'a> Reader<'a> {
         tokens::next(self.source, self.token)
     }
 
+    // At the first token: how many words and bytes the tree of the text takes.
+    pub fn measure(self) -> Result<Extent, Stop>
+        requires { (length self.source.now ≤ 0x10000) × First self.source.now self.token }
+        ensures { Measures self.entry.source.now result }
+    {
+        whole::measure_from(self.source, self.token)
+    }
+
     // At the first token: the tree of the text is stored where there is room for all of it.
     pub fn parse(self, records: &mut [u32], texts: &mut [u8]) -> Result<Extent, Stop>
         requires { (length self.source.now ≤ 0x10000) × First self.source.now self.token }
@@ -41,6 +49,15 @@ impl<'a> Reader<'a> {
     {
         whole::parse_from(self.source, self.token, records, texts)
     }
+}
+
+// How many words and bytes the tree of a text takes.
+pub fn measure(source: &[u8]) -> Result<Extent, Stop>
+    requires { length source.now ≤ 0x10000 }
+    ensures { Measures source.now result }
+{
+    let token = tokens::arrive(source, 0)?;
+    Reader::new(source, token).measure()
 }
 
 // The tree of a text is measured, and stored where there is room for all of it.

@@ -28,7 +28,7 @@ use Rattle.parser.proofs.Ready.{flat-length}
 use Rattle.reader.specs.Groups.{all_of, groups_of}
 use Rattle.reader.specs.Directives.{member_kind, member_branches}
 use Rattle.reader.specs.Places.{words_in, bytes_in, Begins, Blank}
-use Rattle.reader.specs.Whole.{members, last_names, stored_kinds, HasNames, Names, Passes, Sizes, Known, First, Stopped, by-text, by-words, by_bytes, group_count}
+use Rattle.reader.specs.Whole.{members, last_names, stored_kinds, HasNames, Names, Passes, Sizes, Measured, Known, First, Given, Stopped, by-text, by-words, by_bytes, group_count}
 use Rattle.reader.specs.declared.whole.Noted.{Noted}
 use Rattle.reader.specs.declared.blocks.Extent.{Extent}
 use Rattle.reader.proofs.GroupSizes.{Weight, nodes-of, bytes_of, groups-next, groups_weigh}
@@ -150,8 +150,8 @@ module _ {s : List ℕ} {t : Token} (first : First s t) where
       }
 
   -- a declaration behind it is refused
-  pub stopped-members : {c p : ℕ} (ws ts : List ℕ) → members (stream s t) ≡ refused c p → Stopped s ws ts c p
-  stopped-members ws ts f = by-text (grammar_halted (tokens_at s 0) first.arrives f)
+  pub stopped-members : {c p : ℕ} → members (stream s t) ≡ refused c p → parse_grammar (tokens_at s 0) ≡ refused c p
+  stopped-members f = grammar_halted (tokens_at s 0) first.arrives f
 
   -- ------------------------------------------------------------------ all is measured
 
@@ -168,8 +168,8 @@ module _ {s : List ℕ} {t : Token} (first : First s t) where
         }
 
     -- there is no top rule
-    pub stopped-top : {p : ℕ} (ws ts : List ℕ) → not noted.top ≡ true → p ≡ start_in last → Stopped s ws ts no_top p
-    stopped-top ws ts y e = by-text (grammar_topless (tokens_at s 0) first.arrives g.gives (g.noted.top ∙ not-true noted.top y) ∙ rw (start-of s last, e))
+    pub stopped-top : {p : ℕ} → not noted.top ≡ true → p ≡ start_in last → parse_grammar (tokens_at s 0) ≡ refused no_top p
+    stopped-top y e = grammar_topless (tokens_at s 0) first.arrives g.gives (g.noted.top ∙ not-true noted.top y) ∙ rw (start-of s last, e)
 
     -- there are names as is noted, and what was measured is small
     pub measured-names : HasNames s noted
@@ -192,12 +192,9 @@ module _ {s : List ℕ} {t : Token} (first : First s t) where
         let o = placed_in s last g.onward.lies in
         omega arith
 
-    -- the tree, which is read where there is a top rule
+    -- the tree
     abbrev grammar_at : GrammarDeclaration ℕ
     grammar_at = grammar_of (start_in t) g.found
-
-    pub whole-read : not noted.top ≡ false → parse_grammar (tokens_at s 0) ≡ read grammar_at (stream s last)
-    whole-read y = grammar-read (tokens_at s 0) first.arrives g.gives (g.noted.top ∙ not-false noted.top y) ∙ rw (start-of s t)
 
     module _ {m y named : ℕ} {ps qs rs os : List ℕ} (d : Names (last_names g.found) s (lent n ps x qs) (lent m rs y os) named) where
       -- its sizes are those that were measured
@@ -226,39 +223,58 @@ module _ {s : List ℕ} {t : Token} (first : First s t) where
           let k = flat-length (name_branch 24) (last_names g.found) in
           (omega arith, omega arith)
 
-      module _ (has-top : not noted.top ≡ false) {ws ts : List ℕ} where
-        -- there is no room for the words, or for the bytes
-        pub stopped-words : length ws < m + 7 → Stopped s ws ts records_full 0
-        stopped-words i =
-            let e = measured-words in
-            by-words (record { tree = grammar_at; rest = stream s last; gives = whole-read has-top; short = omega arith; cause-is = refl; place_is = refl })
+      -- there is a top rule, so the tree is known
+      pub measured : not noted.top ≡ false → Blank group_count (words_in zs) → Blank group_count (bytes_in zs) → Measured s t noted (count + named) zs₁ (m + 7) y
+      measured has-top none-words none-bytes =
+          let e = measured-words in
+          let f = measured-bytes in
+          let h = g.counted in
+          let k = d.counted in
+          let l = g.lays.bound in
+          let c = g.lays.space in
+          let o = placed_in s last g.onward.lies in
+          let q = grammar-words (start_in t) g.found in
+          let i = grammar-bytes (start_in t) g.found in
+          let r = d.few in
+          let j = d.short in
+          record {
+            last = last;
+            arrives = first.arrives;
+            surveyed = record { members = g.found; gives = g.gives; onward = g.onward; bound = omega arith; space = g.lays.space };
+            noted = g.noted;
+            top = not-false noted.top has-top;
+            counted = omega arith;
+            sizes = measured-sizes none-words none-bytes;
+            words_are = omega arith;
+            bytes-are = omega arith;
+            few = omega arith;
+            short = omega arith;
+          }
 
-        pub stopped-bytes : m + 7 ≤ length ws → length ts < y → Stopped s ws ts texts_full 0
-        stopped-bytes i j =
-            let e = measured-words in
-            let f = measured-bytes in
-            by_bytes (record { tree = grammar_at; rest = stream s last; gives = whole-read has-top; fits = omega arith; short = omega arith; cause-is = refl; place_is = refl })
+-- ------------------------------------------------------------------ what is known once all is measured
 
-        -- there is room for all
-        pub all_known : Blank group_count (words_in zs) → Blank group_count (bytes_in zs) → m + 7 ≤ length ws → y ≤ length ts → Known s t noted (count + named) zs₁ ws ts
-        all_known none-words none-bytes i j =
-            let e = measured-words in
-            let f = measured-bytes in
-            let h = g.counted in
-            let k = d.counted in
-            let l = g.lays.bound in
-            let o = placed_in s last g.onward.lies in
-            let q = grammar-words (start_in t) g.found in
-            let r = d.few in
-            record {
-              last = last;
-              arrives = first.arrives;
-              surveyed = record { members = g.found; gives = g.gives; onward = g.onward; bound = omega arith; space = g.lays.space };
-              noted = g.noted;
-              top = not-false noted.top has-top;
-              counted = omega arith;
-              sizes = measured-sizes none-words none-bytes;
-              few = omega arith;
-              words_fit = omega arith;
-              bytes_fit = omega arith;
-            }
+module _ {s : List ℕ} {t : Token} {n : Noted} {count words bytes : ℕ} {zs : List Extent} (m : Measured s t n count zs words bytes) where
+  -- the tree that the definition gives
+  pub given : Given s words bytes
+  given =
+      record {
+        tree = grammar_of (start_in t) m.surveyed.members;
+        rest = stream s m.last;
+        gives = grammar-read (tokens_at s 0) m.arrives m.surveyed.gives (m.noted.top ∙ m.top) ∙ rw (start-of s t);
+        words_are = m.words_are;
+        bytes-are = m.bytes-are;
+        few = m.few;
+        short = m.short;
+      }
+
+  module _ {ws ts : List ℕ} where
+    -- there is no room for the words, or for the bytes
+    pub stopped-words : length ws < words → Stopped s ws ts records_full 0
+    stopped-words i = by-words (record { words = words; bytes = bytes; given = given; lacks = i; cause-is = refl; place_is = refl })
+
+    pub stopped-bytes : words ≤ length ws → length ts < bytes → Stopped s ws ts texts_full 0
+    stopped-bytes i j = by_bytes (record { words = words; bytes = bytes; given = given; fits = i; lacks = j; cause-is = refl; place_is = refl })
+
+    -- there is room for all
+    pub all_known : words ≤ length ws → bytes ≤ length ts → Known s t n count zs ws ts
+    all_known i j = record { words = words; bytes = bytes; measured = m; words_fit = i; bytes_fit = j }

@@ -48,30 +48,30 @@ module _ {s : List ℕ} {t : Token} {noted : Noted} {count : ℕ} {zs : List Ext
   qs = bytes_in zs
 
   abbrev ms : List (Member ℕ)
-  ms = known.surveyed.members
+  ms = known.measured.surveyed.members
 
   pub known-names : HasNames s noted
-  known-names = record { the = last_names ms; are = known.noted.named }
+  known-names = record { the = last_names ms; are = known.measured.noted.named }
 
   pub known-named : {a b : Lent} {m : ℕ} → ((ns : List (Identifier ℕ)) → NamedIs s noted.dialects ns → Names ns s a b m) → Names (last_names ms) s a b m
-  known-named h = h (last_names ms) known.noted.named
+  known-named h = h (last_names ms) known.measured.noted.named
 
   known-bound : (length (flat nodes (all_of member_kind member_branches 0 ms)) ≤ 0x20000) × (length (texts_of (flat nodes (all_of member_kind member_branches 0 ms))) ≤ 0x30000)
   known-bound =
-      let p = placed_in s known.last known.surveyed.onward.lies in
-      let b = known.surveyed.bound in
-      let c = known.surveyed.space in
+      let p = placed_in s known.measured.last known.measured.surveyed.onward.lies in
+      let b = known.measured.surveyed.bound in
+      let c = known.measured.surveyed.space in
       (omega arith, omega arith)
 
   -- the sizes of the groups, added up
   words-sum : sum ps ≡ width * length (flat nodes (all_of member_kind member_branches 0 ms))
   words-sum =
-      let a = sum_is in_words ms ps known.sizes.words-all known.sizes.words_are in
+      let a = sum_is in_words ms ps known.measured.sizes.words-all known.measured.sizes.words_are in
       let b = groups_weigh member_kind member_branches nodes-of stored_kinds top_one ms in
       omega arith
 
   bytes-sum : sum qs ≡ length (texts_of (flat nodes (all_of member_kind member_branches 0 ms)))
-  bytes-sum = sum_is in_bytes ms qs known.sizes.bytes-all known.sizes.bytes-are ∙ groups_weigh member_kind member_branches bytes_of stored_kinds top_one ms
+  bytes-sum = sum_is in_bytes ms qs known.measured.sizes.bytes-all known.measured.sizes.bytes-are ∙ groups_weigh member_kind member_branches bytes_of stored_kinds top_one ms
 
   pub words_small : sum ps < 2 ^ 64
   words_small = let a = words-sum in let b = known-bound.0 in omega arith
@@ -81,10 +81,10 @@ module _ {s : List ℕ} {t : Token} {noted : Noted} {count : ℕ} {zs : List Ext
 
   module _ {ps₁ qs₁ : List ℕ} (e : ps₁ ≡ lined_up 0 ps) (f : qs₁ ≡ lined_up 0 qs) where
     words-at : get_or ps₁ 11 0 ≡ width * length (stored_before ms 11)
-    words-at = lined-is in_words ms ps known.sizes.words-all known.sizes.words_are e 11 (omega arith)
+    words-at = lined-is in_words ms ps known.measured.sizes.words-all known.measured.sizes.words_are e 11 (omega arith)
 
     bytes-at : get_or qs₁ 11 0 ≡ length (texts_of (stored_before ms 11))
-    bytes-at = lined-is in_bytes ms qs known.sizes.bytes-all known.sizes.bytes-are f 11 (omega arith)
+    bytes-at = lined-is in_bytes ms qs known.measured.sizes.bytes-all known.measured.sizes.bytes-are f 11 (omega arith)
 
     pub names_at : (get_or ps₁ 11 0 ≤ 0x100000) × (get_or qs₁ 11 0 ≤ 0x100000)
     names_at =
@@ -119,15 +119,15 @@ module _ {s : List ℕ} {t : Token} {noted : Noted} {count : ℕ} {zs : List Ext
           record {
             lies = l;
             small = z;
-            words-all = places_all in_words ms ps known.sizes.words-all known.sizes.words_are e k;
-            bytes-all = places_all in_bytes ms qs known.sizes.bytes-all known.sizes.bytes-are f x;
-            words-few = places_few in_words ms ps known.sizes.words-all known.sizes.words_are e k 0x1000000 (omega arith) last-small.0;
-            bytes-few = places_few in_bytes ms qs known.sizes.bytes-all known.sizes.bytes-are f x 0x1000000 (omega arith) last-small.1;
+            words-all = places_all in_words ms ps known.measured.sizes.words-all known.measured.sizes.words_are e k;
+            bytes-all = places_all in_bytes ms qs known.measured.sizes.bytes-all known.measured.sizes.bytes-are f x;
+            words-few = places_few in_words ms ps known.measured.sizes.words-all known.measured.sizes.words_are e k 0x1000000 (omega arith) last-small.0;
+            bytes-few = places_few in_bytes ms qs known.measured.sizes.bytes-all known.measured.sizes.bytes-are f x 0x1000000 (omega arith) last-small.1;
           }
 
       count_small : count < 2 ^ 32
       count_small =
-          let a = known.counted in
+          let a = known.measured.counted in
           let b = flat-length (λ (x : Branch). x) (all_of member_kind member_branches 0 ms) in
           let c = known-bound.0 in
           let d = flat-length (name_branch 24) (last_names ms) in
@@ -136,13 +136,13 @@ module _ {s : List ℕ} {t : Token} {noted : Noted} {count : ℕ} {zs : List Ext
 
       module _ {u : Token} {n₂ y₂ count₂ : ℕ} {noted₂ : Noted} {ps₂ qs₂ vs₂ us₂ : List ℕ} (passes : Passes s t (set ps₁ 11 k) (set qs₁ 11 x) ps₂ qs₂ vs us vs₂ us₂ u n₂ y₂ count₂ noted₂) where
         fills : Fills member_place member_branches 13 ms (set ps₁ 11 k) (set qs₁ 11 x) ps₂ qs₂ vs us vs₂ us₂
-        fills = let q : passes.found ≡ ms = together passes.gives known.surveyed.gives in rw q at passes.fills
+        fills = let q : passes.found ≡ ms = together passes.gives known.measured.surveyed.gives in rw q at passes.fills
 
         words-end : get_or ps₂ 11 0 ≡ k + width * length (group_of ms 11)
-        words-end = let a = place_eleven in_words ms ps known.sizes.words-all known.sizes.words_are e k in let b = fills.words-on 11 (omega arith) in omega arith
+        words-end = let a = place_eleven in_words ms ps known.measured.sizes.words-all known.measured.sizes.words_are e k in let b = fills.words-on 11 (omega arith) in omega arith
 
         bytes-end : get_or qs₂ 11 0 ≡ x + length (texts_of (group_of ms 11))
-        bytes-end = let a = place_eleven in_bytes ms qs known.sizes.bytes-all known.sizes.bytes-are f x in let b = fills.bytes_on 11 (omega arith) in omega arith
+        bytes-end = let a = place_eleven in_bytes ms qs known.measured.sizes.bytes-all known.measured.sizes.bytes-are f x in let b = fills.bytes_on 11 (omega arith) in omega arith
 
         -- the last group is that of external props
         props-are : group_of ms 11 ≡ flat nodes (all_of member_kind member_branches 25 ms)
@@ -167,10 +167,10 @@ module _ {s : List ℕ} {t : Token} {noted : Noted} {count : ℕ} {zs : List Ext
 
         -- how many branches the grammar's record has
         children : grammar_children ms ≡ count
-        children = let a = top_weighs ms number in let b = known.counted in omega arith
+        children = let a = top_weighs ms number in let b = known.measured.counted in omega arith
 
         whole-nodes : nodes (grammar_branch (grammar_of (start_in t) ms)) ≡ stored_before ms 11 ++ naming ++ group_of ms 11 ++ own
-        whole-nodes = grammar-nodes (start_in t) ms ∙ rw (known.noted.delim, children, props-are)
+        whole-nodes = grammar-nodes (start_in t) ms ∙ rw (known.measured.noted.delim, children, props-are)
 
         words_are : grammar_words (grammar_of (start_in t) ms) ≡ words (records_from 0 (stored_before ms 11 ++ naming ++ group_of ms 11 ++ own))
         words_are = words-of (grammar_of (start_in t) ms) ∙ ap (λ (l : List Node). words (records_from 0 l)) whole-nodes
@@ -184,29 +184,29 @@ module _ {s : List ℕ} {t : Token} {noted : Noted} {count : ℕ} {zs : List Ext
           stores-own = rw (pe, ve) at put
 
           words_fit : width * length (stored_before ms 11 ++ naming ++ group_of ms 11 ++ own) ≤ length ws
-          words_fit = let a = known.words_fit in let b = ap length words_are in let c = words-length 0 (stored_before ms 11 ++ naming ++ group_of ms 11 ++ own) in omega arith
+          words_fit = let a = known.words_fit in let m = known.measured.words_are in let b = ap length words_are in let c = words-length 0 (stored_before ms 11 ++ naming ++ group_of ms 11 ++ own) in omega arith
 
           bytes_fit : length (texts_of (stored_before ms 11 ++ naming ++ group_of ms 11 ++ own)) ≤ length ts
-          bytes_fit = let a = known.bytes_fit in let b = ap length texts-are in omega arith
+          bytes_fit = let a = known.bytes_fit in let m = known.measured.bytes-are in let b = ap length texts-are in omega arith
 
           words-written : vs₃ ≡ written ws 0 (words (records_from 0 (stored_before ms 11 ++ naming ++ group_of ms 11 ++ own)))
           words-written =
               all-written in_words ms naming own words-at bytes-at names.stores.words-end names.stores.texts-end words-end bytes-end (set ps₁ 11 k) (set qs₁ 11 x)
-              (place-first in_words ms ps known.sizes.words-all known.sizes.words_are e k)
-              (place-first in_bytes ms qs known.sizes.bytes-all known.sizes.bytes-are f x)
-              (place_eleven in_words ms ps known.sizes.words-all known.sizes.words_are e k)
-              (place_eleven in_bytes ms qs known.sizes.bytes-all known.sizes.bytes-are f x)
-              (place-behind in_words ms ps known.sizes.words-all known.sizes.words_are e k naming own)
+              (place-first in_words ms ps known.measured.sizes.words-all known.measured.sizes.words_are e k)
+              (place-first in_bytes ms qs known.measured.sizes.bytes-all known.measured.sizes.bytes-are f x)
+              (place_eleven in_words ms ps known.measured.sizes.words-all known.measured.sizes.words_are e k)
+              (place_eleven in_bytes ms qs known.measured.sizes.bytes-all known.measured.sizes.bytes-are f x)
+              (place-behind in_words ms ps known.measured.sizes.words-all known.measured.sizes.words_are e k naming own)
               words_fit (put-words names.stores) fills.records (put-words stores-own)
 
           bytes-written : us₃ ≡ written ts 0 (texts_of (stored_before ms 11 ++ naming ++ group_of ms 11 ++ own))
           bytes-written =
               all-written in_bytes ms naming own bytes-at bytes-at names.stores.texts-end names.stores.texts-end bytes-end bytes-end (set qs₁ 11 x) (set qs₁ 11 x)
-              (place-first in_bytes ms qs known.sizes.bytes-all known.sizes.bytes-are f x)
-              (place-first in_bytes ms qs known.sizes.bytes-all known.sizes.bytes-are f x)
-              (place_eleven in_bytes ms qs known.sizes.bytes-all known.sizes.bytes-are f x)
-              (place_eleven in_bytes ms qs known.sizes.bytes-all known.sizes.bytes-are f x)
-              (place-behind in_bytes ms qs known.sizes.bytes-all known.sizes.bytes-are f x naming own)
+              (place-first in_bytes ms qs known.measured.sizes.bytes-all known.measured.sizes.bytes-are f x)
+              (place-first in_bytes ms qs known.measured.sizes.bytes-all known.measured.sizes.bytes-are f x)
+              (place_eleven in_bytes ms qs known.measured.sizes.bytes-all known.measured.sizes.bytes-are f x)
+              (place_eleven in_bytes ms qs known.measured.sizes.bytes-all known.measured.sizes.bytes-are f x)
+              (place-behind in_bytes ms qs known.measured.sizes.bytes-all known.measured.sizes.bytes-are f x naming own)
               bytes_fit (put-texts names.stores) fills.texts (put-texts stores-own)
 
           -- how many words and bytes are taken
@@ -239,16 +239,23 @@ module _ {s : List ℕ} {t : Token} {noted : Noted} {count : ℕ} {zs : List Ext
               let b = bytes-taken in
               let c = known.words_fit in
               let d = known.bytes_fit in
-              let q = known.few in
+              let m = known.measured.words_are in
+              let n = known.measured.bytes-are in
+              let q = known.measured.few in
+              let r = known.measured.short in
               record {
-                tree = grammar_of (start_in t) ms;
-                rest = stream s known.last;
-                gives = grammar-read (tokens_at s 0) known.arrives known.surveyed.gives (known.noted.top ∙ known.top) ∙ rw (start-of s t);
-                words_are = a;
-                bytes-are = b;
-                few = omega arith;
+                given =
+                    record {
+                      tree = grammar_of (start_in t) ms;
+                      rest = stream s known.measured.last;
+                      gives = grammar-read (tokens_at s 0) known.measured.arrives known.measured.surveyed.gives (known.measured.noted.top ∙ known.measured.top) ∙ rw (start-of s t);
+                      words_are = a;
+                      bytes-are = b;
+                      few = omega arith;
+                      short = omega arith;
+                    };
                 words_fit = omega arith;
                 bytes_fit = omega arith;
-                records = words-written ∙ ap (λ (l : List ℕ). written ws 0 l) (sym words_are) ∙ at_front (grammar_words (grammar_of (start_in t) ms)) ws c;
-                texts = bytes-written ∙ ap (λ (l : List ℕ). written ts 0 l) (sym texts-are) ∙ at_front (grammar_texts (grammar_of (start_in t) ms)) ts d;
+                records = words-written ∙ ap (λ (l : List ℕ). written ws 0 l) (sym words_are) ∙ at_front (grammar_words (grammar_of (start_in t) ms)) ws (omega arith);
+                texts = bytes-written ∙ ap (λ (l : List ℕ). written ts 0 l) (sym texts-are) ∙ at_front (grammar_texts (grammar_of (start_in t) ms)) ts (omega arith);
               }

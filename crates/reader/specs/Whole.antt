@@ -28,6 +28,7 @@ use Rattle.reader.specs.declared.blocks.Extent.{Extent}
 use Rattle.reader.specs.declared.directives.Declared.{Declared}
 use Rattle.reader.specs.declared.whole.Noted.{Noted}
 use Rattle.reader.specs.declared.whole.Passed.{Passed}
+use Rattle.reader.specs.declared.whole.Measurement.{Measurement}
 
 -- the declarations up to the end
 abbrev pub members : Parser ℕ (List (Member ℕ))
@@ -154,8 +155,9 @@ pub record Sizes (ms : List (Member ℕ)) (words bytes : List ℕ) : Type 0 wher
 abbrev pub Surveyed : List ℕ → (t last : Token) → Type 0
 Surveyed s t last = MeasuredAs (members (stream s t)) member_kind member_branches 0 s t last
 
--- all is measured, and there is room for it
-pub record Known (s : List ℕ) (t : Token) (n : Noted) (count : ℕ) (sizes_of : List Extent) (ws ts : List ℕ) : Type 0 where
+-- all is measured: there is a top rule, and the tree takes so many words and bytes, at most four records for each byte of the text and the
+-- grammar's own, and six bytes of texts
+pub record Measured (s : List ℕ) (t : Token) (n : Noted) (count : ℕ) (sizes_of : List Extent) (words bytes : ℕ) : Type 0 where
   pub last : Token
   pub arrives : arrive (tokens_at s 0) ≡ read tt (stream s t)
   pub surveyed : Surveyed s t last
@@ -163,9 +165,23 @@ pub record Known (s : List ℕ) (t : Token) (n : Noted) (count : ℕ) (sizes_of 
   pub top : n.top ≡ true
   pub counted : length (all_of member_kind member_branches 0 surveyed.members) + length (last_names surveyed.members) ≡ count
   pub sizes : Sizes surveyed.members (words_in sizes_of) (bytes_in sizes_of)
-  pub few : length (grammar_words (grammar_of (start_in t) surveyed.members)) ≤ 28 * length s + 7
-  pub words_fit : length (grammar_words (grammar_of (start_in t) surveyed.members)) ≤ length ws
-  pub bytes_fit : length (grammar_texts (grammar_of (start_in t) surveyed.members)) ≤ length ts
+  pub words_are : words ≡ length (grammar_words (grammar_of (start_in t) surveyed.members))
+  pub bytes-are : bytes ≡ length (grammar_texts (grammar_of (start_in t) surveyed.members))
+  pub few : words ≤ 28 * length s + 7
+  pub short : bytes ≤ 6 * length s
+
+-- what an answer says of all that is measured: the tree takes so much, or the definition refuses the text with this cause and place
+abbrev pub MeasuredTo : List ℕ → Token → (sizes_of : List Extent) → Result Measurement Stop → Type 0
+MeasuredTo s t zs (Ok m) = Measured s t m.noted m.count zs m.size.words m.size.bytes
+MeasuredTo s t zs (Err e) = parse_grammar (tokens_at s 0) ≡ refused (cause_number e.cause) e.place
+
+-- all is measured, and there is room for it
+pub record Known (s : List ℕ) (t : Token) (n : Noted) (count : ℕ) (sizes_of : List Extent) (ws ts : List ℕ) : Type 0 where
+  pub words : ℕ
+  pub bytes : ℕ
+  pub measured : Measured s t n count sizes_of words bytes
+  pub words_fit : words ≤ length ws
+  pub bytes_fit : bytes ≤ length ts
 
 -- ------------------------------------------------------------------ the whole
 
@@ -174,35 +190,46 @@ pub record First (s : List ℕ) (t : Token) : Type 0 where
   pub arrives : arrive (tokens_at s 0) ≡ read tt (stream s t)
   pub lies : LiesIn s 0 t
 
--- the tree is stored, and there was room for it: at most four records for each byte of the text, and the grammar's
-pub record Read (s ws ts vs us : List ℕ) (words bytes : ℕ) : Type 0 where
+-- the tree that the definition gives takes so many words and bytes: at most four records for each byte of the text and the grammar's own,
+-- and six bytes of texts
+pub record Given (s : List ℕ) (words bytes : ℕ) : Type 0 where
   pub tree : GrammarDeclaration ℕ
   pub rest : Tokens ℕ
   pub gives : parse_grammar (tokens_at s 0) ≡ read tree rest
   pub words_are : words ≡ length (grammar_words tree)
   pub bytes-are : bytes ≡ length (grammar_texts tree)
   pub few : words ≤ 28 * length s + 7
+  pub short : bytes ≤ 6 * length s
+
+-- what an answer says of how much the tree of a text takes, or that the definition refuses the text
+abbrev pub Measures : List ℕ → Result Extent Stop → Type 0
+Measures s (Ok r) = Given s r.words r.bytes
+Measures s (Err e) = parse_grammar (tokens_at s 0) ≡ refused (cause_number e.cause) e.place
+
+-- the tree is stored, and there was room for it
+pub record Read (s ws ts vs us : List ℕ) (words bytes : ℕ) : Type 0 where
+  pub given : Given s words bytes
   pub words_fit : words ≤ length ws
   pub bytes_fit : bytes ≤ length ts
-  pub records : vs ≡ over (grammar_words tree) ws
-  pub texts : us ≡ over (grammar_texts tree) ts
+  pub records : vs ≡ over (grammar_words given.tree) ws
+  pub texts : us ≡ over (grammar_texts given.tree) ts
 
 -- the tree needs more words than are lent: `records_full` at place 0
 pub record NoWords (s ws : List ℕ) (cause place : ℕ) : Type 0 where
-  pub tree : GrammarDeclaration ℕ
-  pub rest : Tokens ℕ
-  pub gives : parse_grammar (tokens_at s 0) ≡ read tree rest
-  pub short : length ws < length (grammar_words tree)
+  pub words : ℕ
+  pub bytes : ℕ
+  pub given : Given s words bytes
+  pub lacks : length ws < words
   pub cause-is : cause ≡ records_full
   pub place_is : place ≡ 0
 
 -- the tree needs no more words than are lent, but more bytes: `texts_full` at place 0
 pub record NoBytes (s ws ts : List ℕ) (cause place : ℕ) : Type 0 where
-  pub tree : GrammarDeclaration ℕ
-  pub rest : Tokens ℕ
-  pub gives : parse_grammar (tokens_at s 0) ≡ read tree rest
-  pub fits : length (grammar_words tree) ≤ length ws
-  pub short : length ts < length (grammar_texts tree)
+  pub words : ℕ
+  pub bytes : ℕ
+  pub given : Given s words bytes
+  pub fits : words ≤ length ws
+  pub lacks : length ts < bytes
   pub cause-is : cause ≡ texts_full
   pub place_is : place ≡ 0
 

@@ -8,7 +8,7 @@ ghost use Rattle.tree.specs.Promise.{kind_number};
 ghost use Rattle.parser.specs.Storing.{lent_of, Kept};
 ghost use Rattle.reader.specs.Places.{place_in, words_in, bytes_in, Blank, Begins};
 ghost use Rattle.reader.specs.Ahead.{external_kind, external_ahead, kind_ahead, ahead_number};
-ghost use Rattle.reader.specs.Whole.{group_count, PlacesTo, records_of, note_of, PassesTo, HasNames, NamesTo, stored_kinds, Known, First, Reads};
+ghost use Rattle.reader.specs.Whole.{group_count, PlacesTo, records_of, note_of, PassesTo, HasNames, NamesTo, stored_kinds, Known, MeasuredTo, First, Measures, Reads};
 
 use crate::blocks::Extent;
 use crate::directives::{Declared, Seen};
@@ -47,6 +47,14 @@ pub struct Passed {
     pub size: Extent,
     pub count: usize,
     pub noted: Noted,
+}
+
+// All is measured: what was noted, how many records the grammar's own holds, and how much the tree takes.
+#[derive(Clone, Copy, Debug, PartialEq, Eq)]
+pub struct Measurement {
+    pub noted: Noted,
+    pub count: usize,
+    pub size: Extent,
 }
 
 // The number of a kind's group, or 12 where it has none. A table, no conversion: most kinds share the last number.
@@ -339,16 +347,10 @@ fn store_groups(
     })
 }
 
-// From the first token on, with room for the sizes of the groups.
-fn parse_over(
-    source: &[u8],
-    token: Token,
-    groups: &mut [Extent],
-    store: &mut Store,
-) -> Result<Extent, Stop>
+// From the first token on, each group is measured, and the whole: the first pass, and the names of the last `@dialects`.
+fn measure_groups(source: &[u8], token: Token, groups: &mut [Extent]) -> Result<Measurement, Stop>
     requires { (length source.now ≤ 0x10000) × First source.now token × Blank group_count (words_in groups.old) × Blank group_count (bytes_in groups.old) }
-    ensures kept { Kept store.old store.new }
-    ensures reads { Reads source.now store.old.records.now store.old.texts.now store.new.records.now store.new.texts.now result }
+    ensures { MeasuredTo source.now token groups.new result }
 {
     let mut measuring = Store::measuring();
     let Passed {
@@ -366,19 +368,51 @@ fn parse_over(
     measuring.n = size.words;
     measuring.x = size.bytes;
     let named = dialects(source, noted, &mut measuring)?;
-    if store.records.len() < measuring.n + WIDTH {
+    Ok(Measurement {
+        noted,
+        count: count + named,
+        size: Extent {
+            words: measuring.n + WIDTH,
+            bytes: measuring.x,
+        },
+    })
+}
+
+// From the first token on, how many words and bytes the tree of a text takes.
+pub fn measure_from(source: &[u8], token: Token) -> Result<Extent, Stop>
+    requires { (length source.now ≤ 0x10000) × First source.now token }
+    ensures { Measures source.now result }
+{
+    let mut groups = [Extent::NONE; GROUPS];
+    let measured = measure_groups(source, token, &mut groups)?;
+    Ok(measured.size)
+}
+
+// From the first token on, with room for the sizes of the groups.
+fn parse_over(
+    source: &[u8],
+    token: Token,
+    groups: &mut [Extent],
+    store: &mut Store,
+) -> Result<Extent, Stop>
+    requires { (length source.now ≤ 0x10000) × First source.now token × Blank group_count (words_in groups.old) × Blank group_count (bytes_in groups.old) }
+    ensures kept { Kept store.old store.new }
+    ensures reads { Reads source.now store.old.records.now store.old.texts.now store.new.records.now store.new.texts.now result }
+{
+    let Measurement { noted, count, size } = measure_groups(source, token, groups)?;
+    if store.records.len() < size.words {
         return Err(Stop {
             cause: Cause::RecordsFull,
             place: 0,
         });
     }
-    if store.texts.len() < measuring.x {
+    if store.texts.len() < size.bytes {
         return Err(Stop {
             cause: Cause::TextsFull,
             place: 0,
         });
     }
-    store_groups(source, token, noted, count + named, groups, store)
+    store_groups(source, token, noted, count, groups, store)
 }
 
 // From the first token on, the tree of a text is measured, and stored where there is room for all of it.

@@ -1,24 +1,26 @@
 -- `parse` meets its contract.
 -- Assumes nothing.
-use Rattle.calls.proofs.ReadLaws.{long-stops, ill-stops, parsed}
-use Rattle.grammar.specs.Reading.{longest}
-use Rattle.tokens.proofs.Stops.{stopped}
-use Rattle.tokens.proofs.Stops.{stopped}
-use mathlib.Core.Path.{sym}
 use native.Mathlib.Omega.{arith}
+use mathlib.Core.Path.{refl}
+use Rattle.tokens.proofs.Stops.{stopped}
+use Rattle.grammar.specs.Reading.{longest}
+use Rattle.calls.proofs.ReadLaws.{stops, few-stopped, parsed, parsed-few}
 use Rattle.calls.proofs.parse.Goals as goal
 
-pub returns-then-text-gt-LONGEST : goal.returns-then-text-gt-LONGEST
-unfolding longest
-returns-then-text-gt-LONGEST c = long-stops _ _ _ c.if-text-gt-LONGEST.true
-
 pub parse-requires : goal.parse-requires
-parse-requires c = omega (arith, c.if-text-gt-LONGEST.false)
-
-pub returns-in_err-check : goal.returns-in_err-check
 unfolding longest
-returns-in_err-check c = rw (stopped c.from_residual.result c.from_residual.ensures.1) (ill-stops _ _ _ c.if-text-gt-LONGEST.false (sym (c.in_err-check.ensures {u = tt})))
+parse-requires c = let l = c.in_ok-check_text.ensures.0 in omega arith
+
+pub returns-in_err-check_text : goal.returns-in_err-check_text
+returns-in_err-check_text c =
+    record {
+      reading = rw (stopped c.from_residual.result c.from_residual.ensures.1) (stops _ _ _ c.in_err-check_text.ensures, refl, refl);
+      few = few-stopped _ c.in_err-check_text.ensures;
+    }
 
 pub returns : goal.returns
-unfolding longest
-returns c = parsed _ _ _ _ _ c.if-text-gt-LONGEST.false (sym (c.in_ok-check.ensures {u = tt})) c.parse.result c.parse.ensures
+returns c =
+    record {
+      reading = parsed _ c.in_ok-check_text.ensures _ _ _ _ c.parse.result c.parse.ensures;
+      few = parsed-few _ c.in_ok-check_text.ensures _ _ _ _ c.parse.result c.parse.ensures;
+    }
