@@ -2,10 +2,9 @@
 //! This is a sample: compare/tree holds it on many more.
 
 use crate::held::Calls;
-use crate::library::{self, ANSWER, Answer, Tree};
+use crate::library::{self, Answer, Tree};
 use crate::node::Expression;
 use crate::random::Random;
-use crate::room::{self, Room};
 use crate::runs::{Difference, Seen};
 use crate::{parse, records, second};
 
@@ -31,7 +30,6 @@ fn body(text: &[u8]) -> Option<Body> {
 
 pub struct Bodies {
     calls: Calls,
-    answer: Room<u64>,
     random: Random,
     before: Vec<Body>,
     texts: usize,
@@ -43,7 +41,6 @@ impl Bodies {
     pub fn of(calls: Calls) -> Self {
         Bodies {
             calls,
-            answer: room::answers(),
             random: Random::of(1),
             before: Vec::new(),
             texts: 0,
@@ -51,16 +48,12 @@ impl Bodies {
         }
     }
 
-    fn call(&mut self, left: Tree<'_>, right: Tree<'_>, expected: Answer, lent: usize) -> Result<usize, Difference> {
-        let (ours, theirs) = self.answer.lend(lent);
-        (self.calls.structurally_eq)(left, right, ours);
-        if let Some(front) = theirs.get_mut(..ANSWER) {
-            front.copy_from_slice(&expected);
+    fn call(&self, left: Tree<'_>, right: Tree<'_>, expected: Answer) -> Result<usize, Difference> {
+        let ours = (self.calls.structurally_eq)(left, right);
+        if ours != expected {
+            return Err(format!("answer of structurally_eq {ours:?}, not {expected:?}; on {left:?} and {right:?}"));
         }
-        match self.answer.settle("answer of structurally_eq") {
-            Some(differ) => Err(format!("{differ}; on {left:?} and {right:?}")),
-            None => Ok(expected[0] as usize),
-        }
+        Ok(expected.cause as usize)
     }
 
     /// Two bodies, and both with one word changed or left out.
@@ -68,10 +61,7 @@ impl Bodies {
         let equal = left.expression.structurally_eq(&right.expression);
         let [left, right] = [left, right].map(|body| (&body.stored.words[..], &body.stored.texts[..]));
         let expected = library::said(usize::from(equal), 0);
-        let fewer = self.random.below(ANSWER);
-        for lent in [ANSWER, ANSWER + 2, fewer] {
-            seen.push(self.call(left, right, expected, lent)?);
-        }
+        seen.push(self.call(left, right, expected)?);
         self.given[usize::from(equal)] += 1;
         for (one, two, first) in [(left, right, true), (right, left, false)] {
             let mut words = one.0.to_vec();
@@ -95,8 +85,8 @@ impl Bodies {
                 Ok(equal) => library::said(usize::from(equal), 0),
                 Err(refusal) => library::refused(refusal.cause, 0, 1, 0),
             };
-            seen.push(self.call(left, right, expected, ANSWER)?);
-            self.given[if expected[0] == 0 { expected[4] as usize } else { 2 }] += 1;
+            seen.push(self.call(left, right, expected)?);
+            self.given[if expected.cause == 0 { expected.first as usize } else { 2 }] += 1;
         }
         Ok(())
     }

@@ -2,7 +2,7 @@
 
 use crate::bodies::Bodies;
 use crate::classes::Classes;
-use crate::library::{self, ANSWER, Tree};
+use crate::library::{self, Answer, Tree};
 use crate::room::{self, Room};
 use crate::runs::{Difference, Holds, Seen};
 use crate::second::{self, Node, Refusal};
@@ -11,17 +11,19 @@ use crate::{expected, records};
 /// The library's calls, or others with their face.
 #[derive(Clone, Copy)]
 pub struct Calls {
-    pub normal_text: fn(&[u8], &mut [u32], &mut [u8], &mut [u8], &mut [u64]),
-    pub structurally_eq: fn(Tree<'_>, Tree<'_>, &mut [u64]),
+    pub measure: fn(&[u8]) -> Answer,
+    pub normal_text: fn(&[u8], &mut [u32], &mut [u8], &mut [u8]) -> Answer,
+    pub structurally_eq: fn(Tree<'_>, Tree<'_>) -> Answer,
 }
 
 pub const PROVED: Calls = Calls {
+    measure: library::measure,
     normal_text: library::normal_text,
     structurally_eq: library::structurally_eq,
 };
 
-/// How many words, bytes of texts, bytes of output and words of the answer are lent.
-type Lengths = (usize, usize, usize, usize);
+/// How many words, bytes of texts and bytes of output are lent.
+type Lengths = (usize, usize, usize);
 
 /// Lent memory, and what is known of the texts before.
 pub struct Lent {
@@ -29,12 +31,10 @@ pub struct Lent {
     words: Room<u32>,
     texts: Room<u8>,
     output: Room<u8>,
-    answer: Room<u64>,
     pub laws: Laws,
     pub bodies: Bodies,
     /// Normal texts that are too long, whatever is lent.
     pub too_long: u64,
-    held: usize,
 }
 
 impl Lent {
@@ -44,12 +44,34 @@ impl Lent {
             words: room::words(),
             texts: room::bytes(),
             output: room::bytes(),
-            answer: room::answers(),
             laws: Laws::of(calls),
             bodies: Bodies::of(calls),
             too_long: 0,
-            held: 0,
         }
+    }
+
+    /// The answer that a text has, by the second program.
+    fn answer<T>(text: &[u8], called: Result<T, Refusal>, said: impl FnOnce(T) -> Answer) -> Answer {
+        match called {
+            Ok(given) => said(given),
+            Err(Refusal { cause, place }) => {
+                let (line, column) = second::line_column(text, place);
+                library::refused(cause, place, line, column)
+            }
+        }
+    }
+
+    /// Measures a text, for which nothing is lent: the sizes of its tree, or what stops its reading.
+    fn measure(&self, text: &[u8], tree: &Result<Node, Refusal>) -> Result<usize, Difference> {
+        let ours = (self.calls.measure)(text);
+        let answer = Self::answer(text, tree.as_ref().map_err(|refusal| *refusal), |tree| {
+            let stored = second::store(tree);
+            library::said(stored.words.len(), stored.texts.len())
+        });
+        if ours != answer {
+            return Err(format!("measured {ours:?}, not {answer:?}"));
+        }
+        Ok(answer.cause as usize)
     }
 
     /// Calls with so much lent, holds all of it against the second program's, and gives the cause.
@@ -57,37 +79,25 @@ impl Lent {
         let (our_words, words) = self.words.lend(lent.0);
         let (our_texts, texts) = self.texts.lend(lent.1);
         let (our_output, output) = self.output.lend(lent.2);
-        let (our_answer, answer) = self.answer.lend(lent.3);
-        (self.calls.normal_text)(text, our_words, our_texts, our_output, our_answer);
+        let ours = (self.calls.normal_text)(text, our_words, our_texts, our_output);
         let stored = tree.as_ref().map_err(|refusal| *refusal);
-        let six = match stored.and_then(|tree| second::write_into(tree, words, texts, output)) {
-            Ok(held) => library::said(held.output, 0),
-            Err(Refusal { cause, place }) => {
-                let (line, column) = second::line_column(text, place);
-                library::refused(cause, place, line, column)
-            }
-        };
-        if let Some(front) = answer.get_mut(..ANSWER) {
-            front.copy_from_slice(&six);
+        let written = stored.and_then(|tree| second::write_into(tree, words, texts, output));
+        let answer = Self::answer(text, written, |held| library::said(held.output, 0));
+        let differ = [self.words.settle("words"), self.texts.settle("texts"), self.output.settle("output")];
+        if ours != answer {
+            return Err(format!("answer {ours:?}, not {answer:?}; lent {lent:?}"));
         }
-        let differ = [
-            self.answer.settle("answer"),
-            self.words.settle("words"),
-            self.texts.settle("texts"),
-            self.output.settle("output"),
-        ];
         match differ.into_iter().flatten().next() {
             Some(differ) => Err(format!("{differ}; lent {lent:?}")),
-            None => Ok(six[0] as usize),
+            None => Ok(answer.cause as usize),
         }
     }
 
-    /// Room of every sort: ample, none, exactly full, each one short, and answers with fewer words than six.
+    /// Room of every sort: ample, none, exactly full, each one short.
     fn rooms(&mut self, text: &[u8], tree: Option<&Node>) -> (Vec<Lengths>, Vec<u8>) {
-        self.held += 1;
-        let fewer = self.held % ANSWER;
-        let ample = (7 * (text.len() + 4), 5 * text.len() + 5, 12 * text.len() + 100);
-        let mut rooms = vec![(ample.0, ample.1, ample.2, ANSWER), (0, 0, 0, ANSWER), (ample.0, ample.1, ample.2, fewer)];
+        // With these bounds of a tree's words and texts neither 22 nor 23 may come.
+        let ample = (28 * text.len() + 7, 6 * text.len(), 12 * text.len() + 100);
+        let mut rooms = vec![ample, (0, 0, 0)];
         let Some(tree) = tree else {
             return (rooms, Vec::new());
         };
@@ -96,17 +106,14 @@ impl Lent {
         assert!(words <= ample.0 && bytes <= ample.1 && output <= ample.2, "more room is needed");
         self.too_long += u64::from(output > second::BYTES);
         rooms.extend([
-            (words, bytes, output, ANSWER),
-            (words, bytes, output, ANSWER + 3),
-            (words, bytes, output, fewer),
-            (words - 1, bytes, output, ANSWER),
-            (words - 1, bytes.saturating_sub(1), output - 1, ANSWER),
-            (words, bytes, output - 1, ANSWER),
-            (words, bytes, output - 1, fewer),
-            (words, bytes, 0, ANSWER),
+            (words, bytes, output),
+            (words - 1, bytes, output),
+            (words - 1, bytes.saturating_sub(1), output - 1),
+            (words, bytes, output - 1),
+            (words, bytes, 0),
         ]);
         if bytes > 0 {
-            rooms.extend([(words, bytes - 1, output, ANSWER), (words, bytes - 1, 0, ANSWER), (ample.0, 0, ample.2, ANSWER)]);
+            rooms.extend([(words, bytes - 1, output), (words, bytes - 1, 0), (ample.0, 0, ample.2)]);
         }
         (rooms, normal)
     }
@@ -116,14 +123,15 @@ impl Holds for Lent {
     fn hold(&mut self, text: &[u8]) -> Result<Seen, Difference> {
         let read = expected::read(text)?;
         let (rooms, normal) = self.rooms(text, read.as_ref().ok());
-        let mut seen = Vec::with_capacity(rooms.len() + 1);
+        let mut seen = Vec::with_capacity(rooms.len() + 2);
         for lent in rooms {
             seen.push(self.call(text, &read, lent)?);
         }
+        seen.push(self.measure(text, &read)?);
         if seen[0] == 0 {
             let again = expected::read(&normal)?;
             let stored = second::store(read.as_ref().expect("accepted"));
-            seen.push(self.call(&normal, &again, (stored.words.len(), stored.texts.len(), normal.len(), ANSWER))?);
+            seen.push(self.call(&normal, &again, (stored.words.len(), stored.texts.len(), normal.len()))?);
             self.laws.hold(text)?;
             seen.extend(self.bodies.hold(text, &normal)?);
         }
@@ -133,7 +141,7 @@ impl Holds for Lent {
 
 // -------------------------------------------------------------------- demand 3
 
-/// Demand 3 by the library's own answers alone: a normal text is accepted with as much lent, its tree agrees, and it is its own normal
+/// Demand 3 by the library's own answers alone: a text reads as it measures; a normal text is accepted with as much lent, its tree agrees, and it is its own normal
 /// text; and of all texts so far those have the same normal text whose trees agree, and no others.
 pub struct Laws {
     calls: Calls,
@@ -141,7 +149,7 @@ pub struct Laws {
 }
 
 struct Written {
-    answer: library::Answer,
+    answer: Answer,
     words: Vec<u32>,
     texts: Vec<u8>,
     output: Vec<u8>,
@@ -165,33 +173,32 @@ impl Laws {
     }
 
     fn written(&self, text: &[u8], words: usize, texts: usize, output: usize) -> Written {
-        let mut written = Written {
-            answer: [0; ANSWER],
-            words: vec![0; words],
-            texts: vec![0; texts],
-            output: vec![0; output],
-        };
-        (self.calls.normal_text)(text, &mut written.words, &mut written.texts, &mut written.output, &mut written.answer);
-        written
+        let (mut words, mut texts, mut output) = (vec![0; words], vec![0; texts], vec![0; output]);
+        let answer = (self.calls.normal_text)(text, &mut words, &mut texts, &mut output);
+        Written { answer, words, texts, output }
     }
 }
 
 impl Holds for Laws {
     fn hold(&mut self, text: &[u8]) -> Result<Seen, Difference> {
-        let (mut words, mut texts) = (vec![0; 7 * (text.len() + 4)], vec![0; 5 * text.len() + 5]);
-        let [cause, _, _, _, words, texts] = library::read(text, &mut words, &mut texts);
-        if cause != 0 {
-            return Ok(vec![cause as usize]);
+        let (mut words, mut texts) = (vec![0; 28 * text.len() + 7], vec![0; 6 * text.len()]);
+        let read = library::read(text, &mut words, &mut texts);
+        let measured = (self.calls.measure)(text);
+        if read != measured {
+            return Err(format!("measured {measured:?}, and read {read:?}"));
         }
-        let (words, texts) = (words as usize, texts as usize);
+        if read.cause != 0 {
+            return Ok(vec![read.cause as usize]);
+        }
+        let (words, texts) = (read.first as usize, read.second as usize);
         let first = self.written(text, words, texts, second::BYTES);
-        if first.answer[0] == 24 {
+        if first.answer.cause == 24 {
             return Ok(vec![24]);
         }
-        if first.answer[0] != 0 || first.answer[4] as usize > second::BYTES {
+        if first.answer.cause != 0 || first.answer.first as usize > second::BYTES {
             return Err(format!("read, and then {:?}", first.answer));
         }
-        let normal = &first.output[..first.answer[4] as usize];
+        let normal = &first.output[..first.answer.first as usize];
         let again = self.written(normal, words, texts, normal.len());
         if again.answer != first.answer || again.output != normal {
             return Err(format!("its normal text's is {:?} {:?}", again.answer, String::from_utf8_lossy(&again.output)));

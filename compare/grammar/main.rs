@@ -2,8 +2,9 @@
 //!
 //! - `grammar held LIST SEED COUNT EXAMPLE ..`: LIST has texts in hexadecimal, one a line; COUNT texts are made from SEED; each EXAMPLE is
 //!   a grammar file. Every text is handed to `hemvuda_normal_text` with room of every sort (held.rs): all lent words and bytes and the
-//!   answer have to be the second program's, whose tree or refusal has to be the Rust's wherever the Rust has one. Each accepted text has
-//!   to meet demand 3 by the library's own answers. `hemvuda_structurally_eq` is held on a sample of bodies (bodies.rs).
+//!   answer have to be the second program's, whose tree or refusal has to be the Rust's wherever the Rust has one. Every text is
+//!   measured too, with nothing lent: the sizes of its tree, or what stops its reading. Each accepted text has to meet demand 3 by the
+//!   library's own answers. `hemvuda_structurally_eq` is held on a sample of bodies (bodies.rs).
 //!   The run fails where something differs, which is printed with the smallest text found for each family of texts; where a library
 //!   that is wrong (wrong.rs) is not found out; where a cause from 1 to 25 is given by no call; where no normal text is longer than any
 //!   output; where no two texts share a normal text; and where a normal text that is respelled has another one.
@@ -41,6 +42,7 @@ use runs::{Holds, Run, notices};
 
 /// Stops unless all that is wrong is found out.
 fn wrong_ones(hand: &[Vec<u8>]) {
+    assert!(library::version() == library::VERSION, "another version is linked");
     let shams = wrong::shams().into_iter().map(|(what, calls)| (what, Laws::of(calls)));
     notices("by demand 3 alone", shams.collect(), hand);
     let libraries = wrong::libraries().into_iter().map(|(what, calls)| (what, Lent::to(calls)));

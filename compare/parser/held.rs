@@ -43,7 +43,7 @@ impl Lent {
         }
         match differ.into_iter().flatten().next() {
             Some(differ) => Err(differ),
-            None => Ok(answer[0] as usize),
+            None => Ok(answer.cause as usize),
         }
     }
 }
@@ -52,8 +52,7 @@ impl Holds for Lent {
     /// Holds a text with room of every sort: ample, and where there is a tree exactly full, one short and none.
     fn hold(&mut self, text: &[u8]) -> Result<Seen, Difference> {
         let read = expected::read(text)?;
-        // A character is at most a record with five bytes of text (`_anon`), or its bytes stored twice.
-        let ample = (7 * (text.len() + 4), 5 * text.len() + 5);
+        let ample = (28 * text.len() + 7, 6 * text.len());
         let mut rooms = vec![ample, (0, 0)];
         if let Ok(tree) = &read {
             let stored = second::store(tree);

@@ -51,15 +51,11 @@ impl<T: Copy + PartialEq + Debug> Room<T> {
     }
 }
 
-/// Room for words, bytes and answers.
+/// Room for words and for bytes.
 pub fn words() -> Room<u32> {
     Room::of(|at| 1_000_000 + at as u32)
 }
 
 pub fn bytes() -> Room<u8> {
     Room::of(|at| (at % 251) as u8)
-}
-
-pub fn answers() -> Room<u64> {
-    Room::of(|at| u64::MAX - at as u64)
 }

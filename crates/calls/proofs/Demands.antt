@@ -4,16 +4,17 @@ use Prim.Native.Nat.{ℕ, ◌≤◌}
 use native.Mathlib.Omega.{arith}
 use mathlib.Core.Path.{◌≡◌, refl, ap, sym, ◌∙◌}
 use mathlib.Core.Bool.{Bool, true, false}
-use mathlib.Core.List.{List, []}
-use lib.Dec.{ltb}
+use mathlib.Core.List.{List, [], ◌++◌}
+use lib.Dec.{ltb, eqb}
 use lib.ListN.{length, take, drop, length-append, length-drop}
 use lib.Seq.{take-append_seam}
 use borrow.Author.Tests.{lt-ltb, le-ltb, ltb-false}
 use Rattle.basics.proofs.Tests.{impossible, both_false}
 use Rattle.error.specs.Causes.{output_full}
 use Rattle.error.specs.Lines.{refusal_at}
+use Rattle.tree.specs.Records.{Branch}
 use Rattle.tree.specs.Syntax.{GrammarDeclaration}
-use Rattle.tree.specs.Stored.{grammar_words, grammar_texts}
+use Rattle.tree.specs.Stored.{grammar_words, grammar_texts, grammar_branch}
 use Rattle.spelling.specs.NormalText.{normal_text}
 use Rattle.writer.specs.Promise.{too_long}
 use Rattle.grammar.specs.Reading.{Reading, tree, stopped, reading, longest}
@@ -24,11 +25,14 @@ use Rattle.laws.specs.Demand3.{Accepted}
 use Rattle.laws.proofs.Demand3.{normal-texts-are-accepted, equal_when_trees_agree, agreeing_trees_take-the-same-room}
 use Rattle.laws.proofs.Calls.{Room, wrote, wrote-only}
 use Rattle.calls.specs.Promise.{read_answer, read_outcome, ReadTo, Few, normal_answer, normal_outcome, NormalTo}
-use Rattle.calls.specs.Demands.{ReadIsSettled, NormalTextIsSettled, MeasureIsSettled, StructurallyEqIsSettled, AsMeasured, MeasureTellsWhatReadWill, RoomIsEnough, RefusedAs, StoredAs, Answers, ReadAnswersAsDefined, EqualExactlyWhenTreesAgree, Agreeing, NormalTextsAreTheirOwn, NormalTextIsWritten, NormalTextIsTooLong}
+use Rattle.calls.specs.Demands.{ReadIsSettled, NormalTextIsSettled, MeasureIsSettled, StructurallyEqIsSettled, ReadStoresATree, AsMeasured, MeasureTellsWhatReadWill, RoomIsEnough, RefusedAs, StoredAs, Answers, ReadAnswersAsDefined, EqualExactlyWhenTreesAgree, NormalTextsAreTheirOwn, NormalTextIsWritten, NormalTextIsTooLong, UnwrittenAs, WrittenAs, TooLongAs, Writes, NormalTextAnswersAsDefined, ReadBack, OwnAgain, ReadsBack, Demand1, Demand2, Demand3}
 use Rattle.std.specs.Prelude.{Result, Ok, Err}
 use Rattle.error.specs.declared.Refusal.{Refusal}
 use Rattle.reader.specs.declared.blocks.Extent.{Extent}
-use Rattle.calls.proofs.NormalLaws.{roomed}
+use Rattle.trees.specs.IsTree.{IsTree}
+use Rattle.laws.proofs.StoredTrees.{stored-is_one_tree}
+use Rattle.calls.proofs.NormalLaws.{roomed, kept}
+use Rattle.calls.proofs.Refusals.{measure-refuses, read-refuses, normal-text-refuses, structurally_eq_refuses}
 
 -- ------------------------------------------------------------------ 1
 
@@ -86,6 +90,26 @@ measure-is-settled s r q a b = a ∙ sym b
 
 pub structurally_eq_is-settled : StructurallyEqIsSettled
 structurally_eq_is-settled ls lts rs rts r q a b = a ∙ sym b
+
+-- what is laid over the front of others is their front
+front_of : (t out : List ℕ) → take (length t) (over t out) ≡ t
+front_of t out = take-append_seam t (drop (length t) out)
+
+-- the same words and texts are the same tree
+same-words : {root : ℕ → Bool} {ws vs ts us : List ℕ} {b : Branch} → vs ≡ ws → us ≡ ts → IsTree root ws ts b → IsTree root vs us b
+same-words e f t = rw (e, f) t
+
+-- what is stored is the tree of the text, which is one
+pub read-stores_a_tree : ReadStoresATree
+read-stores_a_tree s ws ts e vs us a =
+    let k = kept s ws ts vs us e a in
+    let g = k.grammar in
+    let is = (roomed (length ws) (length ts) (reading s) k.is).is in
+    let front : take e.words vs ≡ grammar_words g =
+    ap (λ (n : ℕ). take n vs) k.words ∙ ap (λ (l : List ℕ). take (length (grammar_words g)) l) k.records ∙ front_of (grammar_words g) ws in
+    let t : IsTree (λ k. eqb k 1) (grammar_words g) (grammar_texts g ++ drop (length (grammar_texts g)) ts) (grammar_branch g) =
+    stored-is_one_tree s g (drop (length (grammar_texts g)) ts) is in
+    (grammar_branch g, same-words front k.texts t)
 
 -- ------------------------------------------------------------------ 2
 
@@ -161,10 +185,6 @@ record Made (s ws ts out : List ℕ) (n : ℕ) (new : List ℕ) : Type 0 where
   size : length (normal_text grammar) ≡ n
   front : take n new ≡ normal_text grammar
 
--- what is laid over the front of others is their front
-front_of : (t out : List ℕ) → take (length t) (over t out) ≡ t
-front_of t out = take-append_seam t (drop (length t) out)
-
 module _ (s ws ts out : List ℕ) (n : ℕ) (vs us new : List ℕ) (a : NormalTo s ws ts out (Ok n) vs us new) where
   made : Made s ws ts out n new
   made =
@@ -210,22 +230,58 @@ normal-text-is-written s ws ts out g e h i j k = written_all_lem s ws ts out g e
           room = rw (le-ltb longest (length (normal_text g)) j, le-ltb (length out) (length (normal_text g)) k);
         }
 
-pub normal-text-is_too_long : NormalTextIsTooLong
-unfolding normal normal_by room_for write_by
-normal-text-is_too_long s ws ts out g e h i j r vs us new a =
-    let o : normal_outcome r vs us new
-    ≡ record { answer = Calls.NormalAnswer.refused (refusal_at s output_full 0); records = over (grammar_words g) ws; texts = over (grammar_texts g) ts; output = out } =
-    rw (normal, e, room_for, le-ltb (length ws) (length (grammar_words g)) h, le-ltb (length ts) (length (grammar_texts g)) i, normal_by, write_by, j) at a in
-    (ap (λ (o : NormalOutcome). o.answer) o, ap (λ (o : NormalOutcome). o.records) o, ap (λ (o : NormalOutcome). o.texts) o, ap (λ (o : NormalOutcome). o.output) o)
+-- or it is too long
+module _ (s ws ts out : List ℕ) (r : Result ℕ Refusal) (vs us new : List ℕ) (a : NormalTo s ws ts out r vs us new) where
+  too_long_lem : (g : GrammarDeclaration ℕ) → reading s ≡ tree g → length (grammar_words g) ≤ length ws → length (grammar_texts g) ≤ length ts
+      → too_long longest (normal_text g) out ≡ true → TooLongAs g s ws ts out r vs us new
+  unfolding normal normal_by room_for write_by
+  too_long_lem g e h i j =
+      let o : normal_outcome r vs us new
+      ≡ record { answer = Calls.NormalAnswer.refused (refusal_at s output_full 0); records = over (grammar_words g) ws; texts = over (grammar_texts g) ts; output = out } =
+      rw (normal, e, room_for, le-ltb (length ws) (length (grammar_words g)) h, le-ltb (length ts) (length (grammar_texts g)) i, normal_by, write_by, j) at a in
+      (ap (λ (o : NormalOutcome). o.answer) o, ap (λ (o : NormalOutcome). o.records) o, ap (λ (o : NormalOutcome). o.texts) o, ap (λ (o : NormalOutcome). o.output) o)
 
-pub normal-texts-are_their_own : NormalTextsAreTheirOwn
-normal-texts-are_their_own s ws ts out n vs us new a xs ys put e f i r zs qs other b =
+  -- or the reading is stopped
+  unwritten : {n p : ℕ} → room_for (length ws) (length ts) (reading s) ≡ stopped n p → UnwrittenAs n p s ws ts out r vs us new
+  unfolding normal normal_by
+  unwritten {n} {p} e =
+      let o : normal_outcome r vs us new ≡ record { answer = Calls.NormalAnswer.refused (refusal_at s n p); records = ws; texts = ts; output = out } = rw (normal, e, normal_by) at a in
+      (ap (λ (o : NormalOutcome). o.answer) o, ap (λ (o : NormalOutcome). o.records) o, ap (λ (o : NormalOutcome). o.texts) o, ap (λ (o : NormalOutcome). o.output) o)
+
+  written_when : (g : GrammarDeclaration ℕ) → reading s ≡ tree g → length (grammar_words g) ≤ length ws → length (grammar_texts g) ≤ length ts
+      → too_long longest (normal_text g) out ≡ false → WrittenAs g ws ts out r vs us new
+  written_when g e h i j =
+      written_all_lem s ws ts out g e (record { words = le-ltb (length ws) (length (grammar_words g)) h; bytes = le-ltb (length ts) (length (grammar_texts g)) i; room = j }) r vs us new a
+
+  pub writes-so : Writes s ws ts out r vs us new
+  unfolding room_for
+  writes-so =
+      record {
+        refuses = λ n p e. unwritten (rw (e, room_for));
+        no_words = λ g e h. unwritten (rw (e, room_for, lt-ltb (length ws) (length (grammar_words g)) h));
+        no_bytes = λ g e h k. unwritten (rw (e, room_for, le-ltb (length ws) (length (grammar_words g)) h, lt-ltb (length ts) (length (grammar_texts g)) k));
+        writes = written_when;
+        too_long_for = too_long_lem;
+      }
+
+pub normal-text-is_too_long : NormalTextIsTooLong
+normal-text-is_too_long s ws ts out g e h i j r vs us new a = too_long_lem s ws ts out r vs us new a g e h i j
+
+pub normal-text-answers_as_defined : NormalTextAnswersAsDefined
+normal-text-answers_as_defined s ws ts out r vs us new a = writes-so s ws ts out r vs us new a
+
+-- what was written has as many bytes as were answered
+made_size : {s ws ts out : List ℕ} {n : ℕ} {new : List ℕ} (k : Made s ws ts out n new) → length (take n new) ≡ n
+made_size k = ap length k.front ∙ k.size
+
+pub reads-back : ReadsBack
+reads-back s ws ts out n vs us new a xs ys put e f i =
     let k = made s ws ts out n vs us new a in
     let l = (both_false (ltb longest (length (normal_text k.grammar))) (ltb (length out) (length (normal_text k.grammar))) k.room.room).0 in
     let c = normal-texts-are-accepted s k.grammar k.reads (ltb-false longest (length (normal_text k.grammar)) l) in
     again k c
   where
-    again : (k : Made s ws ts out n new) → Accepted k.grammar → (r ≡ Ok n) × (take n other ≡ take n new) × Agreeing s (take n new)
+    again : (k : Made s ws ts out n new) → Accepted k.grammar → ReadBack s n (take n new) xs ys put
     again k c =
         let g = k.grammar in
         let h = c.again in
@@ -237,8 +293,51 @@ normal-texts-are_their_own s ws ts out n vs us new a xs ys put e f i r zs qs oth
           room = rw (i, c.itself) k.room.room;
         } in
         let reads : reading (take n new) ≡ tree h = rw k.front c.accepted in
-        let o = written_all_lem (take n new) xs ys put h reads room r zs qs other b in
         let size : length (normal_text h) ≡ n = rw c.itself k.size in
-        let count : r ≡ Ok n = rw (← size) o.0 in
-        let bytes : take n other ≡ take n new = rw (k.front, o.3, ← size) (front_of (normal_text h) put ∙ c.itself) in
-        (count, bytes, record { first = g; again = h; reads_first = k.reads; reads-again = reads; agrees = c.agrees })
+        let bytes : normal_text h ≡ take n new = c.itself ∙ sym k.front in
+        record {
+          agreeing = record { first = g; again = h; reads_first = k.reads; reads-again = reads; agrees = c.agrees };
+          again_read =
+              λ r zs qs b. (answers (take n new) xs ys r zs qs b).stores h reads
+              (ltb-false (length xs) (length (grammar_words h)) room.words) (ltb-false (length ys) (length (grammar_texts h)) room.bytes);
+          again-written =
+              λ r zs qs other b.
+              let o = written_all_lem (take n new) xs ys put h reads room r zs qs other b in
+              (o.0 ∙ ap (λ x. Ok x) size, o.1, o.2, o.3 ∙ ap (λ (t : List ℕ). over t put) bytes);
+        }
+
+-- so whatever it answered
+pub own-again : (s ws ts out : List ℕ) (r : Result ℕ Refusal) (vs us new : List ℕ) → NormalTo s ws ts out r vs us new → OwnAgain s ws ts out r new
+own-again s ws ts out (Ok n) vs us new a = reads-back s ws ts out n vs us new a
+own-again s ws ts out (Err f) vs us new a = tt
+
+pub normal-texts-are_their_own : NormalTextsAreTheirOwn
+normal-texts-are_their_own s ws ts out n vs us new a xs ys put e f i r zs qs other b =
+    let k = reads-back s ws ts out n vs us new a xs ys put e f i in
+    let o = k.again-written r zs qs other b in
+    let size = made_size (made s ws ts out n vs us new a) in
+    let front : take n other ≡ take n new = rw o.3 (ap (λ (m : ℕ). take m (over (take n new) put)) (sym size) ∙ front_of (take n new) put) in
+    (o.0, front, k.agreeing)
+
+-- ------------------------------------------------------------------ each as one
+
+pub demand_one : Demand1
+demand_one =
+    record {
+      of_read = read-is-settled;
+      of_normal_text = normal-text-is-settled;
+      of_measure = measure-is-settled;
+      of_structurally_eq = structurally_eq_is-settled;
+      measure_refuses = measure-refuses;
+      read_refuses = read-refuses;
+      normal_text_refuses = normal-text-refuses;
+      structurally_eq_refuses = structurally_eq_refuses;
+      read_stores_a_tree = read-stores_a_tree;
+    }
+
+pub demand_two : Demand2
+demand_two =
+    record { of_read = read-answers_as_defined; of_normal_text = normal-text-answers_as_defined; of_measure = measure-tells_what_read_will; with_room = room-is-enough }
+
+pub demand-three : Demand3
+demand-three = record { is_written = normal-text-is-written; or_too_long = normal-text-is_too_long; equal = equal_exactly_when_trees_agree; back = reads-back }

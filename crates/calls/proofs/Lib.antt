@@ -3,3 +3,4 @@ pub mod ReadLaws
 pub mod NormalLaws
 pub mod CompareLaws
 pub mod Demands
+pub mod Refusals

@@ -3,6 +3,7 @@
 #![tactic(auto)]
 
 ghost use Rattle.writer.specs.Promise.{Stored as StoredIn};
+ghost use Rattle.calls.specs.Demands.{Answers, Writes, OwnAgain};
 ghost use Rattle.calls.specs.Promise.{CheckedTo, SizedTo, ReadingTo, MeasureTo, ReadTo, Few, WriteTo, NormalTo, CompareTo};
 
 use error::{Cause, Refusal, Stop};
@@ -57,6 +58,7 @@ pub fn measure(text: &[u8]) -> Result<Extent, Refusal>
 // value in its arms.
 pub fn read(text: &[u8], records: &mut [u32], texts: &mut [u8]) -> Result<Extent, Refusal>
     ensures outcome { ReadTo text.now records.old texts.old result records.new texts.new }
+    ensures answers { Answers text.now records.old texts.old result records.new texts.new }
     ensures few { Few text.now }
 {
     match parse(text, records, texts) {
@@ -90,6 +92,8 @@ pub fn normal_text(
     output: &mut [u8],
 ) -> Result<usize, Refusal>
     ensures outcome { NormalTo text.now records.old texts.old output.old result records.new texts.new output.new }
+    ensures writes { Writes text.now records.old texts.old output.old result records.new texts.new output.new }
+    ensures own { OwnAgain text.now records.old texts.old output.old result output.new }
     ensures few { Few text.now }
 {
     let stored = read(text, records, texts)?;

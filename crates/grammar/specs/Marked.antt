@@ -78,6 +78,8 @@ marked =
     ∷ stops "@top T{x[]<p>{}}" 15 7
     ∷ stops "@top T{@specialize<a>}" 16 7
     ∷ stops "/*" 4 0
+    -- agreement does not ignore a prop's `@`
+    ∷ differs "@top T[a=b]{}" "@top T[@a=b]{}"
     ∷ []
 
 -- none of these claims is wrong
@@ -97,7 +99,7 @@ sample-refused = refl
 
 -- ------------------------------------------------------------------ edges
 
--- the claims about them
+-- Where the definitions could be wrong though all marked texts come out: what the scope warns of, and what each rule of writing does.
 abbrev pub edges : List Claim
 edges =
     -- two empty arguments, and no comma after the last elsewhere

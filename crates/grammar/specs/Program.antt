@@ -4,7 +4,7 @@ use Rattle.std.specs.Prelude.{ℕ, zero, suc, ◌+◌, ◌/◌, ◌%◌, true, f
 use Prim.Native.Char.{code}
 use Rattle.basics.specs.Basics.{letters}
 use Rattle.error.specs.Lines.{Refusal}
-use Rattle.grammar.specs.Calls.{NormalAnswer, written, refused, normal}
+use Rattle.grammar.specs.Calls.{NormalAnswer, written, refused, NormalOutcome, normal}
 
 -- n in decimal, and then the rest; at most so many digits
 unfoldable pub decimal_from : (digits n : ℕ) → List ℕ → List ℕ
@@ -28,8 +28,10 @@ printed_by (written n) output = take n output
 printed_by (refused r) output = refusal_line r
 
 -- it lends 14,000 record words, 32,768 text bytes and 65,535 output bytes
+abbrev pub outcome : (text : List ℕ) → NormalOutcome
+outcome text = normal text (replicate 14000 0) (replicate 32768 0) (replicate 65535 0)
+
+-- what it prints
 unfoldable pub printed : List ℕ → List ℕ
 unfolding normal refusal_line
-printed text =
-    let outcome = normal text (replicate 14000 0) (replicate 32768 0) (replicate 65535 0) in
-    printed_by outcome.answer outcome.output
+printed text = printed_by (outcome text).answer (outcome text).output

@@ -26,7 +26,7 @@ use Rattle.tree.specs.Syntax.{GrammarDeclaration}
 use Rattle.notation.specs.Parser.{Answer, read, refused}
 use Rattle.notation.specs.Declarations.{parse_grammar, parse}
 use Rattle.grammar.specs.Reading.{tree, stopped, reading, answered, read_checked, longest}
-use Rattle.laws.specs.Starts.{on_tokens, on_answer, bare}
+use Rattle.laws.proofs.Starts.{on_tokens, on_answer, bare}
 use Rattle.laws.proofs.AlikeDeclarations.{grammar-parse, parse_grammar_alike}
 use Rattle.laws.proofs.Fine.{U, Fine, fine-token, fine-eof, fine-bad}
 use Rattle.laws.proofs.FineTokens.{tokens-fine}
@@ -49,7 +49,7 @@ check-all {cs} s = check-from (encode_all cs) 0 s refl
 
 -- ------------------------------------------------------------------ reading
 
-reading-of : (text : List ℕ) → reading text ≡ elim (ltb longest (length text)) [ true ↦ stopped 1 0 | false ↦ read_checked text (check text) ]
+pub reading-of : (text : List ℕ) → reading text ≡ elim (ltb longest (length text)) [ true ↦ stopped 1 0 | false ↦ read_checked text (check text) ]
 unfolding
     reading row lead_len char_of first_char on_char check_from check codes_from is_scalar encode in_spans spans is_alphabetic white_space is_whitespace
     is_ecmascript_whitespace is_line_terminator is_punctuation is_word run comment body solid piece tokens_from tokens hex_digit scalar fixed

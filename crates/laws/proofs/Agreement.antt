@@ -12,7 +12,7 @@ use Rattle.tree.specs.Records.{Branch, Branches, []ᴮ, ◌∷ᴮ◌, records, t
 use Rattle.tree.specs.Stored.{each, part_branch, prop_branch, marker_branch, span_branch, expression_branch, expression_branches, slot_branches, name_branch, rule_branch, reference_branch, token_prec_branch, token_conflict_branch, literal_branch, named_node_branch, fallback_branches, prec_item_branch, declaration_branch, external_prop_branch, grammar_branch}
 use Rattle.tree.specs.Equality.{all_agreeing, agree}
 use Rattle.tree.specs.Syntax.{Identifier, PropPart, value, Prop, ConflictMarker, Expression, special, inline, choice, sequence, empty, repeat, set, any, class, Expressions, []ᴱ, ◌∷ᴱ◌, Slots, last, slot, RuleDeclaration, TokenReference, TokenPrecDeclaration, TokenConflictDeclaration, LiteralDeclaration, NamedNode, ExternalPropDeclaration, PrecItem, Declaration, top_rule, rule, tokens, local_tokens, context, external_tokens, external_specializer, external_prop_source, precedences, main_skip, scoped_skip, GrammarDeclaration, start_of}
-use Rattle.laws.specs.Starts.{on_identifier, on_part, on_prop, on_marker, on_expression, on_expressions, on_slots, on_rule, on_reference, on_token_prec, on_token_conflict, on_literal, on_named_node, on_fallback, on_prec_item, on_external_prop, on_declaration, on_grammar, bare}
+use Rattle.laws.proofs.Starts.{on_identifier, on_part, on_prop, on_marker, on_expression, on_expressions, on_slots, on_rule, on_reference, on_token_prec, on_token_conflict, on_literal, on_named_node, on_fallback, on_prec_item, on_external_prop, on_declaration, on_grammar, bare}
 use Rattle.laws.proofs.Fine.{U}
 use Rattle.tree.proofs.Known.{bare_branch, bare_branches, agreed, agrees}
 use Rattle.laws.proofs.Good.{GoodGrammar}

@@ -9,7 +9,7 @@ use mathlib.Core.List.{List, [], ◌∷◌, ◌++◌, map, map-append}
 use mathlib.Core.Option.{Option, none, some}
 use Rattle.lexer.specs.Tokens.{Tokens, token, eof, bad}
 use Rattle.notation.specs.Parser.{Answer, read, refused, Parser, and_then, ◌>>=◌, pure, refuse, choose, start_of, here, refuse_here, kind_of, kind, arrive, next, eat_if, eat, eat_name, eat_at, must, expect, expect_name, taken, expect_string, parse_identifier, size, turns, loop, separate, until_step, until, comma_or_not}
-use Rattle.laws.specs.Starts.{on_tokens, on_answer, on_identifier}
+use Rattle.laws.proofs.Starts.{on_tokens, on_answer, on_identifier}
 use Rattle.laws.proofs.Lists.{on_option}
 
 -- q gives on the tokens with other starts what p gives, with those starts

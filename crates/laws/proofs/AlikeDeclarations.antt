@@ -15,7 +15,7 @@ use Rattle.notation.specs.Parser.{Parser, ◌>>=◌, ◌>>◌, pure, choose, ref
 use Rattle.notation.specs.Expressions.{reference_of, choice_at}
 use Rattle.notation.specs.Members.{TokenMember, token_precedence, token_conflict, token_rule, token_literal, LocalMember, local_precedence, local_rule, local_fallback, SkipMember, skip_top_rule, skip_rule, ExternalMember, external_token, external_conflicts, Member, declaration, dialects, external_prop, detect_delim, declared, declared_dialects, declared_prop, detects}
 use Rattle.notation.specs.Declarations.{parse_rule, reference_by, parse_token_reference, parse_token_precedence, parse_token_conflict, parse_literal, parse_named_node, token_member_by, parse_token_member, parse_tokens, parse_local_member, parse_local_tokens, parse_source, parse_external_member, parse_external_token_set, parse_external_tokens, parse_external_specializer, parse_external_prop_source, parse_external_prop, external_by, parse_external_declaration, parse_prec_kind, parse_prec_item, parse_precedence, seen, parse_context_declaration, parse_skip_member, parse_skip_declaration, top_by, parse_directive, declaration_by, parse_declaration, is_top, has_top, grammar_of, parse, parse_grammar}
-use Rattle.laws.specs.Starts.{on_tokens, on_identifier, on_expression, on_rule, on_reference, on_token_prec, on_token_conflict, on_literal, on_named_node, on_fallback, on_prec_item, on_token_block, on_local_tokens, on_external_prop, on_precedences, on_declaration, on_grammar}
+use Rattle.laws.proofs.Starts.{on_tokens, on_identifier, on_expression, on_rule, on_reference, on_token_prec, on_token_conflict, on_literal, on_named_node, on_fallback, on_prec_item, on_token_block, on_local_tokens, on_external_prop, on_precedences, on_declaration, on_grammar}
 use Rattle.laws.proofs.Lists.{on_option, map_is_empty, map_first_of, map_concat, map_last_of, map_kept, map_picked}
 use Rattle.laws.proofs.Alike.{Alike, same, bind_alike, pure_alike, refuse_alike, choose_alike, here_alike, kind_alike, refuse_here_alike, arrive_alike, next_alike, eat_alike, eat_at_alike, eat_name_alike, expect_alike, expect_name_alike, expect_string_alike, parse_identifier_alike, until_alike, comma_or_not_alike}
 use Rattle.laws.proofs.AlikeExpressions.{if_alike, parse_props_alike, reference-on, start-of, parse_inner_alike, parse_braced_expression_alike, parse_rule_named_alike, choice_at_alike}

@@ -17,7 +17,7 @@ use Rattle.tree.specs.Syntax.{Identifier, ConflictMarker, ConflictMarkerKind, Sp
 use Rattle.notation.specs.Parser.{Parser, mark_in, name_in, at_in, is_mark, ends_sequence}
 use Rattle.notation.specs.Limits.{repeats}
 use Rattle.notation.specs.Expressions.{repeat_mark, marker_mark, Item, marker, expression, part_by, parse_part, prop_named, prop_by, parse_prop, parse_props, class_by, std_class_by, set_by, parse_set_expression, literal_of, reference_of, content_by, inline_by, stacked, repeat_by, parse_repeat, repeated, slots, sequence_of, is_empty_arm, first_empty_arm, choice_by, choice_of, parse_braced_expression, parse_rule_named, parse_inline_rule_expression, parse_specialize_expression, parse_parenthesized_expression, parse_arguments, parse_named, inner_by, parse_expression_inner, parse_expression_suffix, item_by, parse_item, parse_expression_sequence, parse_arm, parse_expression_choice, choice_at}
-use Rattle.laws.specs.Starts.{on_identifier, on_part, on_prop, on_marker, on_expression, on_expressions, on_slots, on_rule, on_reference}
+use Rattle.laws.proofs.Starts.{on_identifier, on_part, on_prop, on_marker, on_expression, on_expressions, on_slots, on_rule, on_reference}
 use Rattle.laws.proofs.Lists.{on_option}
 use Rattle.laws.proofs.Alike.{Alike, same, bind_alike, pure_alike, refuse_alike, choose_alike, here_alike, kind_alike, refuse_here_alike, next_alike, eat_alike, expect_alike, parse_identifier_alike, loop_alike, until_alike}
 

@@ -5,7 +5,7 @@ use mathlib.Core.Path.{◌≡◌, refl, ap, sym, ◌∙◌}
 use mathlib.Core.Bool.{Bool, true, false, ◌||◌}
 use mathlib.Core.List.{List}
 use lib.Dec.{ltb}
-use lib.ListN.{length, take, drop}
+use lib.ListN.{length, take, drop, replicate}
 use lib.Seq.{take-append_seam}
 use borrow.Author.Tests.{ltb-false}
 use Rattle.basics.specs.Basics.{if◌then◌otherwise◌, over}
@@ -17,7 +17,8 @@ use Rattle.tree.specs.Stored.{grammar_words, grammar_texts}
 use Rattle.spelling.specs.NormalText.{normal_text}
 use Rattle.grammar.specs.Reading.{Reading, tree, stopped, reading, longest}
 use Rattle.grammar.specs.Calls.{room_for, NormalAnswer, written, NormalOutcome, write_by, normal_by, normal}
-use Rattle.laws.specs.Demand3.{Accepted, NormalOfItsOutput}
+use Rattle.grammar.specs.Program.{outcome, printed}
+use Rattle.laws.specs.Demand3.{Accepted, NormalOfItsOutput, PrintedIsItsOwn}
 use Rattle.laws.proofs.Demand3.{normal-texts-are-accepted, agreeing_trees_take-the-same-room}
 
 -- ------------------------------------------------------------------ the call, seen through its parts
@@ -143,3 +144,16 @@ normal-of_its_output text records texts output n e = go (wrote-only records text
         → ((normal (take n (normal text records texts output).output) records texts output).answer ≡ written n)
         × ((normal (take n (normal text records texts output).output) records texts output).output ≡ (normal text records texts output).output)
     go w = rw (← w.size, kept text records texts output w.grammar w.reads w.room) (again text records texts output w.grammar w.reads w.room (accepted text records texts output w.grammar w.reads w.room))
+
+-- ------------------------------------------------------------------ and so the program prints it again
+
+-- what is printed where the call writes n bytes
+printed-of : (text : List ℕ) (n : ℕ) → (outcome text).answer ≡ written n → printed text ≡ take n (outcome text).output
+unfolding printed
+printed-of text n e = rw (printed, e)
+
+pub printed-is_its_own : PrintedIsItsOwn
+printed-is_its_own text n e =
+    let k = normal-of_its_output text (replicate 14000 0) (replicate 32768 0) (replicate 65535 0) n e in
+    let p = printed-of text n e in
+    rw p (printed-of (take n (outcome text).output) n k.0 ∙ ap (λ (l : List ℕ). take n l) k.1)

@@ -16,7 +16,7 @@ use Rattle.tree.specs.Stored.{valued, each, flag, prop_branch, expression_branch
 use Rattle.tree.specs.Syntax.{Identifier, Prop, RuleDeclaration, TokenReference, referred, TokenPrecDeclaration, TokenConflictDeclaration, LiteralDeclaration, NamedNode, TokenDeclaration, LocalTokenDeclaration, ExternalTokenDeclaration, ExternalSpecializeDeclaration, ExternalPropDeclaration, PrecDeclaration, ScopedSkipDeclaration, PrecKind, left, right, cut, PrecItem, Declaration, top_rule, rule, tokens, local_tokens, context, external_tokens, external_specializer, external_prop_source, precedences, main_skip, scoped_skip, GrammarDeclaration}
 use Rattle.notation.specs.Limits.{levels}
 use Rattle.notation.specs.Expressions.{reference_of}
-use Rattle.laws.specs.Starts.{on_identifier, on_prop, on_expression, on_rule, on_reference, on_token_prec, on_token_conflict, on_literal, on_named_node, on_fallback, on_prec_item, on_external_prop, on_declaration, on_grammar}
+use Rattle.laws.proofs.Starts.{on_identifier, on_prop, on_expression, on_rule, on_reference, on_token_prec, on_token_conflict, on_literal, on_named_node, on_fallback, on_prec_item, on_external_prop, on_declaration, on_grammar}
 use Rattle.laws.proofs.Fine.{U}
 use Rattle.laws.proofs.Readable.{GoodName, GoodProp}
 use Rattle.laws.proofs.MeetsExpressions.{Found, found_none, found_some, GoodRule}

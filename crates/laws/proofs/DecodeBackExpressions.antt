@@ -16,7 +16,7 @@ use Rattle.tree.specs.OneTree.{is_expression, kind_of}
 use Rattle.tree.specs.Stored.{each, flag, part_branch, prop_branch, marker_number, marker_branch, span_branch, specialize_value, expression_branch, expression_branches, slot_branches}
 use Rattle.tree.specs.Syntax.{PropPart, value, Prop, ConflictMarker, ConflictMarkerKind, ambiguity, precedence, SpecializeKind, extend, specialize, RepeatKind, optional, zero_or_more, one_or_more, CharClass, ascii_letter, ascii_lowercase, ascii_uppercase, digit, whitespace, eof, Expression, special, inline, choice, sequence, empty, repeat, set, any, class, Expressions, Slots, expressions}
 use Rattle.tree.proofs.ExpressionsFit.{expression-kind}
-use Rattle.laws.specs.Starts.{on_part, on_prop, on_marker, on_expression, on_expressions, on_slots}
+use Rattle.laws.proofs.Starts.{on_part, on_prop, on_marker, on_expression, on_expressions, on_slots}
 use Rattle.laws.proofs.Fine.{U, Word}
 use Rattle.laws.proofs.Readable.{GoodPart, good-value, good-braced, GoodProp, GoodMarker, Grade, Each, each_none, each_more, Item, item-name, item-special, item-inline, item-choice, item-sequence, item-empty, item-repeat, item-literal, item-set, item-any, item-class, InSlots, in_last, in_slot, Arm, arm-sequence, arm-item, Arms, arms_none, arms_more, Level, level_choice, level_arm, Readable}
 use Rattle.laws.proofs.Decode.{pick, part_in, all_in, prop_in, span_in, marker_in, expression_by, expression_in, expressions_in, slots_in}

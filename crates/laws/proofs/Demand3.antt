@@ -21,7 +21,7 @@ use Rattle.notation.specs.Parser.{read}
 use Rattle.notation.specs.Declarations.{parse}
 use Rattle.spelling.specs.NormalText.{lines, lines_text, normal_text}
 use Rattle.grammar.specs.Reading.{reading, longest}
-use Rattle.laws.specs.Starts.{on_tokens, bare}
+use Rattle.laws.proofs.Starts.{on_tokens, bare}
 use Rattle.laws.specs.Demand3.{NormalTextsAreAccepted, EqualWhenTreesAgree, AgreeingTreesTakeTheSameRoom}
 use Rattle.laws.proofs.Fine.{U}
 use Rattle.laws.proofs.Good.{GoodGrammar}

@@ -35,7 +35,7 @@ kept_append p (x ∷ xs) ys = rw (kept_append p xs ys) (go (p x))
     go false = refl
 
 -- what is kept of one kind holds nothing of another, and all of its own
-kept-other : (k l : ℕ) → (k ≡ l → ⊥) → (ds : List (Declaration U)) → of_kind k (of_kind l ds) ≡ []
+kept-other : {S : Type 0} (k l : ℕ) → (k ≡ l → ⊥) → (ds : List (Declaration S)) → of_kind k (of_kind l ds) ≡ []
 unfolding kept
 kept-other k l ne [] = refl
 kept-other k l ne (d ∷ ds) = go (eqb (declaration_kind d) l) refl (kept-other k l ne ds)
@@ -44,7 +44,7 @@ kept-other k l ne (d ∷ ds) = go (eqb (declaration_kind d) l) refl (kept-other 
     go true e h = rw (ne_eqb (declaration_kind d) k (λ q. ne (sym q ∙ eqb-true _ _ e)), h)
     go false e h = h
 
-kept_same : (k : ℕ) (ds : List (Declaration U)) → of_kind k (of_kind k ds) ≡ of_kind k ds
+kept_same : {S : Type 0} (k : ℕ) (ds : List (Declaration S)) → of_kind k (of_kind k ds) ≡ of_kind k ds
 unfolding kept
 kept_same k [] = refl
 kept_same k (d ∷ ds) = go (eqb (declaration_kind d) k) refl (kept_same k ds)
@@ -53,7 +53,7 @@ kept_same k (d ∷ ds) = go (eqb (declaration_kind d) k) refl (kept_same k ds)
     go true e h = rw (e, h)
     go false e h = h
 
-groups_none : (k : ℕ) (ks : List ℕ) (ds : List (Declaration U)) → among ks k ≡ false → of_kind k (groups ks ds) ≡ []
+groups_none : {S : Type 0} (k : ℕ) (ks : List ℕ) (ds : List (Declaration S)) → among ks k ≡ false → of_kind k (groups ks ds) ≡ []
 unfolding groups kept
 groups_none k [] ds h = refl
 groups_none k (l ∷ ks) ds h =
@@ -65,7 +65,7 @@ or_rest : (b c : Bool) → b ≡ false → (b || c) ≡ true → c ≡ true
 or_rest true c z m = clash true refl z
 or_rest false c z m = m
 
-groups-one : (k : ℕ) (ks : List ℕ) (ds : List (Declaration U)) → distinct ks ≡ true → among ks k ≡ true → of_kind k (groups ks ds) ≡ of_kind k ds
+groups-one : {S : Type 0} (k : ℕ) (ks : List ℕ) (ds : List (Declaration S)) → distinct ks ≡ true → among ks k ≡ true → of_kind k (groups ks ds) ≡ of_kind k ds
 unfolding groups
 groups-one k [] ds d h = clash false h refl
 groups-one k (l ∷ ks) ds d h = kept_append (λ d. eqb (declaration_kind d) k) (of_kind l ds) (groups ks ds) ∙ go (eqb k l) refl (λ m. groups-one k ks ds two.1 m)
@@ -82,14 +82,14 @@ groups-one k (l ∷ ks) ds d h = kept_append (λ d. eqb (declaration_kind d) k) 
 
 -- ------------------------------------------------------------------ grouping twice is grouping once
 
-groups_twice : (ls ks : List ℕ) (ds : List (Declaration U)) → distinct ks ≡ true → every (among ks) ls ≡ true → groups ls (groups ks ds) ≡ groups ls ds
+groups_twice : {S : Type 0} (ls ks : List ℕ) (ds : List (Declaration S)) → distinct ks ≡ true → every (among ks) ls ≡ true → groups ls (groups ks ds) ≡ groups ls ds
 unfolding groups every
 groups_twice [] ks ds d h = refl
 groups_twice (l ∷ ls) ks ds d h =
     let two = both_true (among ks l) (every (among ks) ls) h in
     rw (groups-one l ks ds d two.0, groups_twice ls ks ds d two.1)
 
-pub grouped_twice : (ds : List (Declaration U)) → grouped (grouped ds) ≡ grouped ds
+pub grouped_twice : {S : Type 0} (ds : List (Declaration S)) → grouped (grouped ds) ≡ grouped ds
 unfolding every
 grouped_twice ds = groups_twice kinds kinds ds refl refl
 

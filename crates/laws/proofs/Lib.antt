@@ -1,3 +1,4 @@
+pub mod Starts
 pub mod Lists
 pub mod Every
 pub mod Alike
@@ -33,6 +34,13 @@ pub mod TextBack
 pub mod Accepted
 pub mod Demand3
 pub mod Calls
+pub mod RefusedSets
 pub mod Takes
 pub mod TakesExpressions
 pub mod TakesDeclarations
+pub mod Stops
+pub mod StopsExpressions
+pub mod StopsDeclarations
+pub mod Stopped
+pub mod StoppedWithin
+pub mod StoredTrees

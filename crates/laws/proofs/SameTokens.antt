@@ -12,7 +12,7 @@ use Rattle.characters.specs.Utf8.{encode_all}
 use Rattle.spelling.specs.Spelling.{spell, spaced}
 use Rattle.spelling.specs.NormalText.{each, each_after, commas, bracketed, mark, at, identifier, from_tokens, bracket_if, part_tokens, value_tokens, prop_tokens, props_tokens, is_choice, is_sequence, marker_tokens, expression_tokens, arguments_tokens, more_arguments, arms_tokens, more_arms, slots_tokens, body_tokens, rule_tokens, top_rule_tokens, reference_tokens, token_prec_tokens, token_conflict_tokens, literal_tokens, named_node_tokens, fallback_tokens, prec_item_tokens, conflicts_tokens, external_set_tokens, declaration_tokens, dialects_lines, external_prop_tokens, lines, lines_text, normal_text}
 use Rattle.spelling.proofs.Lines.{lines_of}
-use Rattle.laws.specs.Starts.{on_identifier, on_part, on_prop, on_marker, on_expression, on_expressions, on_slots, on_rule, on_reference, on_token_prec, on_token_conflict, on_literal, on_named_node, on_fallback, on_prec_item, on_external_prop, on_declaration, on_grammar}
+use Rattle.laws.proofs.Starts.{on_identifier, on_part, on_prop, on_marker, on_expression, on_expressions, on_slots, on_rule, on_reference, on_token_prec, on_token_conflict, on_literal, on_named_node, on_fallback, on_prec_item, on_external_prop, on_declaration, on_grammar}
 
 -- f and g put the same tokens in front of whatever follows
 record Same (f g : List Kind → List Kind) : Type 0 where

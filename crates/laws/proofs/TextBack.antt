@@ -21,7 +21,7 @@ use Rattle.notation.specs.Parser.{is_end}
 use Rattle.spelling.specs.Spelling.{spell, spaced}
 use Rattle.spelling.specs.NormalText.{each, declaration_tokens, dialects_lines, external_prop_tokens, detect_lines, lines, lines_text}
 use Rattle.spelling.proofs.Lines.{lines_of}
-use Rattle.laws.specs.Starts.{on_tokens}
+use Rattle.laws.proofs.Starts.{on_tokens}
 use Rattle.laws.proofs.Fine.{U}
 use Rattle.laws.proofs.Good.{GoodGrammar}
 use Rattle.laws.proofs.ReadBack.{laid}

@@ -7,6 +7,7 @@ use Rattle.tree.specs.Equality.{agree}
 use Rattle.spelling.specs.NormalText.{normal_text}
 use Rattle.grammar.specs.Reading.{tree, reading, longest}
 use Rattle.grammar.specs.Calls.{written, normal}
+use Rattle.grammar.specs.Program.{outcome, printed}
 
 infix 4 ◌reads◌
 -- what a text is read as
@@ -46,3 +47,7 @@ NormalOfItsOutput =
     (text records texts output : List ℕ) (n : ℕ) → (normal text records texts output).answer ≡ written n
     → ((normal (take n (normal text records texts output).output) records texts output).answer ≡ written n)
     × ((normal (take n (normal text records texts output).output) records texts output).output ≡ (normal text records texts output).output)
+
+-- And what the program `normal` prints for a text that is not refused, it prints for that again.
+abbrev pub PrintedIsItsOwn : Type 0
+PrintedIsItsOwn = (text : List ℕ) (n : ℕ) → (outcome text).answer ≡ written n → printed (printed text) ≡ printed text

@@ -1,3 +1,6 @@
-pub mod Starts
 pub mod Demand3
 pub mod Bound
+pub mod RefusedSets
+pub mod Causes
+pub mod Places
+pub mod StoredTrees

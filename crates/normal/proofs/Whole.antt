@@ -1,6 +1,6 @@
 -- What is printed of an input of which no more than 65,536 bytes are read.
 -- Assumes nothing.
-use Rattle.std.proofs.Common.{◌≡◌, ℕ, ◌≤◌, ◌<◌, List, [], ◌++◌, Option, None, Some, Result, Ok, Err, IfSome, IfOk, OnOk, MatchResult, arith, length, take, replicate, refl, sym, ap, ◌∙◌, append-nil, length-append, length-take-le}
+use Rattle.std.proofs.Common.{◌≡◌, ℕ, Bool, false, ◌≤◌, ◌<◌, List, [], ◌++◌, Option, None, Some, Result, Ok, Err, IfSome, IfOk, OnOk, MatchResult, arith, length, take, replicate, refl, sym, ap, ◌∙◌, append-nil, length-append, length-take-le}
 use Rattle.std.proofs.lemmas.Bool.{cases_lt}
 use Rattle.std.proofs.Math.Logic.{inl, inr}
 use Rattle.std.specs.Io.KnownBytes.{Consumes, IsAtEnd, Appends}
@@ -11,6 +11,7 @@ use Rattle.grammar.specs.Calls.{NormalAnswer, NormalOutcome, room_for, normal_by
 use Rattle.grammar.specs.Program.{refusal_line, printed_by, printed}
 use Rattle.calls.proofs.ReadLaws.{reading_long}
 use Rattle.printing.specs.Promise.{Fills}
+use Rattle.normal.specs.Answer.{is_text, prints_text}
 
 -- ------------------------------------------------------------------ a text that is too long
 
@@ -38,6 +39,17 @@ prints-front s more h =
     let long : longest < length (s ++ more) = omega (arith, length-append s more) in
     prints-long (s ++ more) long ∙ sym (prints-long s (omega arith))
 
+-- nor for which of the two is printed
+no_text-long : (s : List ℕ) → longest < length s → prints_text s ≡ false
+unfolding prints_text
+no_text-long s h = ap (λ (o : NormalOutcome). is_text o.answer) (normal-long s (replicate 14000 0) (replicate 32768 0) (replicate 65535 0) h)
+
+which-front : (s more : List ℕ) → 65536 ≤ length s → prints_text (s ++ more) ≡ prints_text s
+unfolding longest
+which-front s more h =
+    let long : longest < length (s ++ more) = omega (arith, length-append s more) in
+    no_text-long (s ++ more) long ∙ sym (no_text-long s (omega arith))
+
 -- ------------------------------------------------------------------ an input
 
 -- what was read of it prints as all of it
@@ -56,6 +68,26 @@ prints-whole (Some xs) (Some ys) r n buf e h f l before after a =
     let g : Consumes (Some xs) (Some ys) (take n buf) × (n < length buf → IsAtEnd (Some ys)) = rw e at f in
     let k : n ≤ length buf = rw e at h in
     rw (g.0, reads-whole ys buf n l k g.1) a
+
+-- and which of the two it is
+which_reads : (left buf : List ℕ) (n : ℕ) → length buf ≡ 65536 → n ≤ length buf → (n < length buf → left ≡ []) → prints_text (take n buf ++ left) ≡ prints_text (take n buf)
+which_reads left buf n l h e = elim (cases_lt n (length buf)) [
+  | inl k ↦ rw (e k, append-nil)
+  | inr k ↦ let f : length (take n buf) ≡ n = length-take-le n buf h in which-front (take n buf) left (omega arith)
+]
+
+pub which-whole : {E F : Type 0} (old new : Option (List ℕ)) (r : Result ℕ E) (n : ℕ) (buf : List ℕ) → r ≡ Ok n → IfOk r (λ m. m ≤ length buf) → Fills old new r buf → length buf ≡ 65536
+    → (q : Result Bool F) → IfOk q (λ b. b ≡ prints_text (take n buf)) → IfSome old (λ text. IfOk q (λ b. b ≡ prints_text text))
+which-whole None new r n buf e h f l q a = tt
+which-whole (Some xs) None r n buf e h f l q a = absurd (rw e at f).0
+which-whole (Some xs) (Some ys) r n buf e h f l q a =
+    let g : Consumes (Some xs) (Some ys) (take n buf) × (n < length buf → IsAtEnd (Some ys)) = rw e at f in
+    let k : n ≤ length buf = rw e at h in
+    rw (g.0, which_reads ys buf n l k g.1) a
+
+pub of-context : {T E F : Type 0} (s : Result T E) (t : Result T F) (P : T → Type 0) (Q : F → Type 0) → MatchResult t (λ x. s ≡ Ok x) Q → IfOk s P → IfOk t P
+of-context s (Ok x) P Q h p = rw h at p
+of-context s (Err e) P Q h p = tt
 
 -- what a result promises, the same result under a context does
 pub under-context : {T E F : Type 0} (s : Result T E) (t : Result T F) (P : Type 0) (Q : F → Type 0) → MatchResult t (λ x. s ≡ Ok x) Q → OnOk s P → OnOk t P

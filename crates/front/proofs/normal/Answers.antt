@@ -1,0 +1,9 @@
+-- `normal` meets its contract. Assumes nothing.
+use Rattle.front.proofs.Responses.{normal-accepted, normal-refused}
+use Rattle.front.proofs.normal.Goals as goal
+
+pub returns-in_ok-write_all-in-Ok : goal.returns-in_ok-write_all-in-Ok
+returns-in_ok-write_all-in-Ok g c = normal-accepted (record { name = c.args.name.now; text = c.args.text.now }) _ _ _ c.in-Ok.ensures.1 c.in_ok-write_all-in-Ok.ensures.bytes
+
+pub returns-in_ok-put_refusal-in-Err : goal.returns-in_ok-put_refusal-in-Err
+returns-in_ok-put_refusal-in-Err g c = normal-refused (record { name = c.args.name.now; text = c.args.text.now }) _ _ _ c.in-Err.ensures c.in_ok-put_refusal-in-Err.ensures

@@ -1,0 +1,23 @@
+-- `hemvuda_read` meets its contract.
+-- Assumes nothing.
+use Rattle.std.specs.Prelude.{Ok, Err}
+use Rattle.calls.proofs.Refusals.{read-refuses}
+use Rattle.hemvuda.proofs.Bounds.{read_keeps}
+use Rattle.hemvuda.proofs.Kept.{refuses, keeps_read}
+use Rattle.hemvuda.proofs.hemvuda_read.Goals as goal
+
+pub returns-in-Ok-clause-accepted : goal.returns-in-Ok-clause-accepted
+returns-in-Ok-clause-accepted c = (read_keeps c.in-Ok.ensures.few (Ok c.in-Ok.stored) c.in-Ok.ensures.outcome c.said.result c.said.ensures).accepted
+
+pub returns-in-Err-clause-room : goal.returns-in-Err-clause-room
+returns-in-Err-clause-room c = (read_keeps c.in-Err.ensures.few (Err c.in-Err.refusal) c.in-Err.ensures.outcome c.refused.result c.refused.ensures).room
+
+pub returns-in-Err-clause-causes : goal.returns-in-Err-clause-causes
+returns-in-Err-clause-causes c = (read_keeps c.in-Err.ensures.few (Err c.in-Err.refusal) c.in-Err.ensures.outcome c.refused.result c.refused.ensures).causes
+
+pub returns-in-Ok-clause-kept : goal.returns-in-Ok-clause-kept
+returns-in-Ok-clause-kept c z = keeps_read _ _ _ _ _ c.in-Ok.stored c.in-Ok.ensures.outcome c.said.ensures
+
+pub returns-in-Err-clause-kept : goal.returns-in-Err-clause-kept
+returns-in-Err-clause-kept c z =
+    absurd (refuses c.in-Err.refusal c.refused.ensures (read-refuses _ _ _ c.in-Err.refusal _ _ c.in-Err.ensures.outcome).0.number.0 z)

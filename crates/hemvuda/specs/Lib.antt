@@ -1,0 +1,4 @@
+pub mod Answers
+pub mod Bounds
+pub mod Version
+pub mod Demands

@@ -1,0 +1,2 @@
+pub mod IsTree
+pub mod Arms
