@@ -25,14 +25,13 @@ use Rattle.laws.specs.Demand3.{Accepted}
 use Rattle.laws.proofs.Demand3.{normal-texts-are-accepted, equal_when_trees_agree, agreeing_trees_take-the-same-room}
 use Rattle.laws.proofs.Calls.{Room, wrote, wrote-only}
 use Rattle.calls.specs.Promise.{read_answer, read_outcome, ReadTo, Few, normal_answer, normal_outcome, NormalTo}
-use Rattle.calls.specs.Demands.{ReadIsSettled, NormalTextIsSettled, MeasureIsSettled, StructurallyEqIsSettled, ReadStoresATree, AsMeasured, MeasureTellsWhatReadWill, RoomIsEnough, RefusedAs, StoredAs, Answers, ReadAnswersAsDefined, EqualExactlyWhenTreesAgree, NormalTextsAreTheirOwn, NormalTextIsWritten, NormalTextIsTooLong, UnwrittenAs, WrittenAs, TooLongAs, Writes, NormalTextAnswersAsDefined, ReadBack, OwnAgain, ReadsBack, Demand1, Demand2, Demand3}
+use Rattle.calls.specs.Demands.{ReadIsSettled, NormalTextIsSettled, MeasureIsSettled, StructurallyEqIsSettled, ReadStoresATree, AsMeasured, MeasureTellsWhatReadWill, RoomIsEnough, RefusedAs, StoredAs, Answers, ReadAnswersAsDefined, EqualExactlyWhenTreesAgree, NormalTextsAreTheirOwn, NormalTextIsWritten, NormalTextIsTooLong, UnwrittenAs, WrittenAs, TooLongAs, Writes, NormalTextAnswersAsDefined, ReadBack, OwnAgain, ReadsBack}
 use Rattle.std.specs.Prelude.{Result, Ok, Err}
 use Rattle.error.specs.declared.Refusal.{Refusal}
 use Rattle.reader.specs.declared.blocks.Extent.{Extent}
 use Rattle.trees.specs.IsTree.{IsTree}
 use Rattle.laws.proofs.StoredTrees.{stored-is_one_tree}
 use Rattle.calls.proofs.NormalLaws.{roomed, kept}
-use Rattle.calls.proofs.Refusals.{measure-refuses, read-refuses, normal-text-refuses, structurally_eq_refuses}
 
 -- ------------------------------------------------------------------ 1
 
@@ -318,26 +317,3 @@ normal-texts-are_their_own s ws ts out n vs us new a xs ys put e f i r zs qs oth
     let size = made_size (made s ws ts out n vs us new a) in
     let front : take n other ≡ take n new = rw o.3 (ap (λ (m : ℕ). take m (over (take n new) put)) (sym size) ∙ front_of (take n new) put) in
     (o.0, front, k.agreeing)
-
--- ------------------------------------------------------------------ each as one
-
-pub demand_one : Demand1
-demand_one =
-    record {
-      of_read = read-is-settled;
-      of_normal_text = normal-text-is-settled;
-      of_measure = measure-is-settled;
-      of_structurally_eq = structurally_eq_is-settled;
-      measure_refuses = measure-refuses;
-      read_refuses = read-refuses;
-      normal_text_refuses = normal-text-refuses;
-      structurally_eq_refuses = structurally_eq_refuses;
-      read_stores_a_tree = read-stores_a_tree;
-    }
-
-pub demand_two : Demand2
-demand_two =
-    record { of_read = read-answers_as_defined; of_normal_text = normal-text-answers_as_defined; of_measure = measure-tells_what_read_will; with_room = room-is-enough }
-
-pub demand-three : Demand3
-demand-three = record { is_written = normal-text-is-written; or_too_long = normal-text-is_too_long; equal = equal_exactly_when_trees_agree; back = reads-back }

@@ -4,3 +4,4 @@ pub mod NormalLaws
 pub mod CompareLaws
 pub mod Demands
 pub mod Refusals
+pub mod Together

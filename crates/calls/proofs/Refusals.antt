@@ -3,13 +3,12 @@
 use Prim.Native.Nat.{ℕ, ◌≤◌}
 use native.Mathlib.Omega.{arith}
 use mathlib.Core.Path.{◌≡◌, refl, ap}
-use mathlib.Core.Bool.{Bool, true, false, ◌||◌}
 use mathlib.Core.List.{List, []}
 use mathlib.Core.Option.{Option, none, some}
 use lib.Dec.{ltb}
 use lib.ListN.{length}
-use Rattle.basics.specs.Basics.{if◌then◌otherwise◌, over}
-use Rattle.basics.proofs.Tests.{impossible}
+use borrow.Author.Tests.{ltb-true, ltb-false}
+use Rattle.basics.proofs.Tests.{cases, impossible}
 use Rattle.std.specs.Prelude.{Err}
 use Rattle.error.specs.Causes.{too_long, overlapping_span, records_full, texts_full, output_full, not_a_tree}
 use Rattle.error.specs.Lines as Lines
@@ -23,10 +22,13 @@ use Rattle.spelling.specs.NormalText.{normal_text}
 use Rattle.tree.specs.Syntax.{GrammarDeclaration}
 use Rattle.grammar.specs.Reading.{Reading, tree, stopped, reading, longest}
 use Rattle.grammar.specs.Calls as Calls
-use Rattle.grammar.specs.Calls.{room_for, ReadOutcome, read_by, read, measure_by, measure, NormalOutcome, write_by, normal_by, normal, compare_by, compare}
+use Rattle.grammar.specs.Calls.{measure_by, measure, compare_by, compare}
 use Rattle.laws.proofs.Stopped.{stopped-by_itself}
 use Rattle.laws.proofs.StoppedWithin.{stopped-within}
-use Rattle.calls.specs.Promise.{read_answer, read_outcome, normal_outcome, compare_answer}
+use Rattle.writer.specs.Promise.{too_long as too_long_for_it}
+use Rattle.calls.specs.Promise.{read_answer, ReadTo, NormalTo, compare_answer}
+use Rattle.calls.specs.Demands.{Answers, Writes}
+use Rattle.calls.proofs.Demands.{read-answers_as_defined, normal-text-answers_as_defined}
 use Rattle.calls.specs.Refusals.{Refuses, MeasureRefuses, ReadRefuses, NormalTextRefuses, StructurallyEqRefuses}
 
 -- ------------------------------------------------------------------ a refusal at a place
@@ -59,63 +61,60 @@ measure-refuses s f a = by-reading (reading s) refl a
 
 -- ------------------------------------------------------------------ `read`
 
-module _ (s ws ts : List ℕ) (f : Refusal) (vs us : List ℕ) where
-  parts : (n p : ℕ) → read_outcome (Err f) vs us ≡ read_by s ws ts (stopped n p) → (refusal_of f ≡ refusal_at s n p) × (vs ≡ ws) × (us ≡ ts)
-  parts n p e = (same_refusal (ap (λ (o : ReadOutcome). o.answer) e), ap (λ (o : ReadOutcome). o.records) e, ap (λ (o : ReadOutcome). o.texts) e)
+-- 22 and 23 are at place 0
+by-room : {last : ℕ} (s : List ℕ) (f : Refusal) (n : ℕ) → too_long ≤ n → n ≤ last → refusal_of f ≡ refusal_at s n 0 → Refuses last s f
+by-room s f n low high e = refuses s f e low high (omega arith)
 
-  by_room : (g : GrammarDeclaration ℕ) (a b : Bool) → read_outcome (Err f) vs us ≡ read_by s ws ts (if a then stopped records_full 0 otherwise if b then stopped texts_full 0 otherwise tree g)
-      → Refuses texts_full s f × (vs ≡ ws) × (us ≡ ts)
-  by_room g true b e = let k = parts records_full 0 e in (refuses s f k.0 (omega arith) (omega arith) (omega arith), k.1, k.2)
-  by_room g false true e = let k = parts texts_full 0 e in (refuses s f k.0 (omega arith) (omega arith) (omega arith), k.1, k.2)
-  by_room g false false e = let q = ap (λ (o : ReadOutcome). o.answer) e in impossible (cc)
+module _ (s ws ts : List ℕ) (f : Refusal) (vs us : List ℕ) (a : ReadTo s ws ts (Err f) vs us) where
+  abbrev Stands : Type 0
+  Stands = Refuses texts_full s f × (vs ≡ ws) × (us ≡ ts)
 
-  read-by : (r : Reading) → reading s ≡ r → read_outcome (Err f) vs us ≡ read_by s ws ts (room_for (length ws) (length ts) r) → Refuses texts_full s f × (vs ≡ ws) × (us ≡ ts)
-  unfolding room_for
-  read-by (stopped n p) e a = let k = parts n p a in (by-the_text s f (omega arith) e k.0, k.1, k.2)
-  read-by (tree g) e a = by_room g (ltb (length ws) (length (grammar_words g))) (ltb (length ts) (length (grammar_texts g))) a
+  answered : Answers s ws ts (Err f) vs us
+  answered = read-answers_as_defined s ws ts (Err f) vs us a
+
+  read-by : (r : Reading) → reading s ≡ r → Stands
+  read-by (stopped n p) e = let k = answered.refuses n p e in (by-the_text s f (omega arith) e (same_refusal k.0), k.1, k.2)
+  read-by (tree g) e =
+      cases (ltb (length ws) (length (grammar_words g)))
+      (λ t. let k = answered.no_words g e (ltb-true (length ws) (length (grammar_words g)) t) in (by-room s f records_full (omega arith) (omega arith) (same_refusal k.0), k.1, k.2))
+      (λ t. let h = ltb-false (length ws) (length (grammar_words g)) t in
+      cases (ltb (length ts) (length (grammar_texts g)))
+      (λ u. let k = answered.no_bytes g e h (ltb-true (length ts) (length (grammar_texts g)) u) in (by-room s f texts_full (omega arith) (omega arith) (same_refusal k.0), k.1, k.2))
+      (λ u. let q = (answered.stores g e h (ltb-false (length ts) (length (grammar_texts g)) u)).0 in impossible (cc)))
 
 pub read-refuses : ReadRefuses
-unfolding read
-read-refuses s ws ts f vs us a = read-by s ws ts f vs us (reading s) refl a
+read-refuses s ws ts f vs us a = read-by s ws ts f vs us a (reading s) refl
 
 -- ------------------------------------------------------------------ `normal_text`
 
-module _ (s ws ts out : List ℕ) (f : Refusal) (vs us new : List ℕ) where
-  same_refused : {r q : Lines.Refusal} → Calls.NormalAnswer.refused r ≡ Calls.NormalAnswer.refused q → r ≡ q
-  same_refused e = cc
+same_refused : {r q : Lines.Refusal} → Calls.NormalAnswer.refused r ≡ Calls.NormalAnswer.refused q → r ≡ q
+same_refused e = cc
 
-  abbrev Is : Reading → Type 0
-  Is r = normal_outcome (Err f) vs us new ≡ normal_by s ws ts out r
+module _ (s ws ts out : List ℕ) (f : Refusal) (vs us new : List ℕ) (a : NormalTo s ws ts out (Err f) vs us new) where
+  abbrev Rests : Type 0
+  Rests = Refuses output_full s f × (new ≡ out)
 
-  stopped_parts : (n p : ℕ) → Is (stopped n p) → (refusal_of f ≡ refusal_at s n p) × (new ≡ out)
-  unfolding normal_by
-  stopped_parts n p e = (same_refused (ap (λ (o : NormalOutcome). o.answer) e), ap (λ (o : NormalOutcome). o.output) e)
+  written : Writes s ws ts out (Err f) vs us new
+  written = normal-text-answers_as_defined s ws ts out (Err f) vs us new a
 
-  written : (g : GrammarDeclaration ℕ) → Is (tree g) → Refuses output_full s f × (new ≡ out)
-  unfolding normal_by write_by
-  written g e = by_length (ltb longest (length (normal_text g)) || ltb (length out) (length (normal_text g))) e
-    where
-      by_length : (b : Bool)
-          → normal_outcome (Err f) vs us new
-          ≡ (if b then record { answer = Calls.NormalAnswer.refused (refusal_at s output_full 0); records = over (grammar_words g) ws; texts = over (grammar_texts g) ts; output = out }
-          otherwise record { answer = Calls.NormalAnswer.written (length (normal_text g)); records = over (grammar_words g) ws; texts = over (grammar_texts g) ts; output = over (normal_text g) out })
-          → Refuses output_full s f × (new ≡ out)
-      by_length true e = (refuses s f (same_refused (ap (λ (o : NormalOutcome). o.answer) e)) (omega arith) (omega arith) (omega arith), ap (λ (o : NormalOutcome). o.output) e)
-      by_length false e = let q = ap (λ (o : NormalOutcome). o.answer) e in impossible (cc)
+  fits : (g : GrammarDeclaration ℕ) → reading s ≡ tree g → length (grammar_words g) ≤ length ws → length (grammar_texts g) ≤ length ts → Rests
+  fits g e h i =
+      cases (too_long_for_it longest (normal_text g) out)
+      (λ t. let k = written.too_long_for g e h i t in (by-room s f output_full (omega arith) (omega arith) (same_refused k.0), k.3))
+      (λ t. let q = (written.writes g e h i t).0 in impossible (cc))
 
-  written_room : (g : GrammarDeclaration ℕ) (a b : Bool) → Is (if a then stopped records_full 0 otherwise if b then stopped texts_full 0 otherwise tree g) → Refuses output_full s f × (new ≡ out)
-  written_room g true b e = let k = stopped_parts records_full 0 e in (refuses s f k.0 (omega arith) (omega arith) (omega arith), k.1)
-  written_room g false true e = let k = stopped_parts texts_full 0 e in (refuses s f k.0 (omega arith) (omega arith) (omega arith), k.1)
-  written_room g false false e = written g e
-
-  normal-by : (r : Reading) → reading s ≡ r → Is (room_for (length ws) (length ts) r) → Refuses output_full s f × (new ≡ out)
-  unfolding room_for
-  normal-by (stopped n p) e a = let k = stopped_parts n p a in (by-the_text s f (omega arith) e k.0, k.1)
-  normal-by (tree g) e a = written_room g (ltb (length ws) (length (grammar_words g))) (ltb (length ts) (length (grammar_texts g))) a
+  normal-by : (r : Reading) → reading s ≡ r → Rests
+  normal-by (stopped n p) e = let k = written.refuses n p e in (by-the_text s f (omega arith) e (same_refused k.0), k.3)
+  normal-by (tree g) e =
+      cases (ltb (length ws) (length (grammar_words g)))
+      (λ t. let k = written.no_words g e (ltb-true (length ws) (length (grammar_words g)) t) in (by-room s f records_full (omega arith) (omega arith) (same_refused k.0), k.3))
+      (λ t. let h = ltb-false (length ws) (length (grammar_words g)) t in
+      cases (ltb (length ts) (length (grammar_texts g)))
+      (λ u. let k = written.no_bytes g e h (ltb-true (length ts) (length (grammar_texts g)) u) in (by-room s f texts_full (omega arith) (omega arith) (same_refused k.0), k.3))
+      (λ u. fits g e h (ltb-false (length ts) (length (grammar_texts g)) u)))
 
 pub normal-text-refuses : NormalTextRefuses
-unfolding normal
-normal-text-refuses s ws ts out f vs us new a = normal-by s ws ts out f vs us new (reading s) refl a
+normal-text-refuses s ws ts out f vs us new a = normal-by s ws ts out f vs us new a (reading s) refl
 
 -- ------------------------------------------------------------------ `structurally_eq`
 

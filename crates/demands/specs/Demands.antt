@@ -5,6 +5,7 @@ use Rattle.calls.specs.Demands.{Demand1, Demand2, Demand3, ReadStoresATree, Norm
 use Rattle.calls.proofs.Demands as Calls
 use Rattle.calls.specs.Refusals.{MeasureRefuses, ReadRefuses, NormalTextRefuses, StructurallyEqRefuses}
 use Rattle.calls.proofs.Refusals as Refusals
+use Rattle.calls.proofs.Together as Together
 use Rattle.laws.specs.Demand3.{NormalTextsAreAccepted, EqualWhenTreesAgree, AgreeingTreesTakeTheSameRoom, NormalOfItsOutput, PrintedIsItsOwn}
 use Rattle.laws.proofs.Demand3 as Laws
 use Rattle.laws.proofs.Calls as LawsOfCalls
@@ -29,17 +30,17 @@ use Rattle.laws.proofs.StoppedWithin as LawsOfPlaces
 -- "Whoever hands in bytes, a grammar or a tree to compare, and lends buffers of any length gets a tree, a normal text, a yes or no, or one
 -- numbered refusal with its place, and what each buffer then holds is fixed."
 pub demand_one : Demand1
-demand_one = Calls.demand_one
+demand_one = Together.demand_one
 
 -- "By a definition, every UTF-8 text of at most 65,535 bytes within 64 levels and 64 stacked repeats, given room, reads to the same tree or is
 -- refused for the same cause at the same byte."
 pub demand_two : Demand2
-demand_two = Calls.demand_two
+demand_two = Together.demand_two
 
 -- "Two accepted texts, given room, have equal normal texts exactly when their trees agree in all but positions; each normal text is itself
 -- accepted, reads to a tree that agrees, and is its own normal text."
 pub demand-three : Demand3
-demand-three = Calls.demand-three
+demand-three = Together.demand-three
 
 -- ------------------------------------------------------------------ demand 1: whatever is handed in, the answer and every lent word are fixed
 

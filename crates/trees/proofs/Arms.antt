@@ -2,7 +2,7 @@
 -- Assumes nothing.
 use Prim.Native.Nat.{ℕ}
 use mathlib.Core.Path.{◌≡◌, refl, sym, ◌∙◌, ap}
-use mathlib.Core.Bool.{Bool, true, false, ◌&&◌, ◌||◌}
+use mathlib.Core.Bool.{Bool, true, false, ◌&&◌, ◌||◌, or-true}
 use mathlib.Core.List.{List, [], ◌∷◌, ◌++◌}
 use mathlib.Core.Option.{Option, some}
 use lib.Dec.{eqb}
@@ -24,52 +24,7 @@ use Rattle.trees.specs.IsTree.{Proper}
 use Rattle.trees.specs.Arms.{same_text, same_specialize, same_repeat, same_class, same_flag, same_spans, same_marker_kind, same_markers, same_part, same_parts, same_props, structurally_eq, expressions_structurally_eq, slots_structurally_eq, ComparesByTheArms}
 use Rattle.trees.proofs.Trees.{fits}
 
--- ------------------------------------------------------------------ rows
-
--- a test on which a row depends, in its place
-module _ (p q : ℕ) where
-  name_row : (t u : List ℕ) → same_row (named 30 p t) (named 30 q u) ≡ same_text t u
-  name_row t u = go (same_text t u) refl
-    where
-      go : (b : Bool) → same_text t u ≡ b → same_row (named 30 p t) (named 30 q u) ≡ b
-      go true e = rw e
-      go false e = rw e
-
-  inline_row : (t u : List ℕ) → same_row (named 32 p t) (named 32 q u) ≡ same_text t u
-  inline_row t u = go (same_text t u) refl
-    where
-      go : (b : Bool) → same_text t u ≡ b → same_row (named 32 p t) (named 32 q u) ≡ b
-      go true e = rw e
-      go false e = rw e
-
-  literal_row : (t u : List ℕ) → same_row (named 36 p t) (named 36 q u) ≡ same_text t u
-  literal_row t u = go (same_text t u) refl
-    where
-      go : (b : Bool) → same_text t u ≡ b → same_row (named 36 p t) (named 36 q u) ≡ b
-      go true e = rw e
-      go false e = rw e
-
-  value_part_row : (t u : List ℕ) → same_row (named 6 p t) (named 6 q u) ≡ same_text t u
-  value_part_row t u = go (same_text t u) refl
-    where
-      go : (b : Bool) → same_text t u ≡ b → same_row (named 6 p t) (named 6 q u) ≡ b
-      go true e = rw e
-      go false e = rw e
-
-  name_part_row : (t u : List ℕ) → same_row (named 7 p t) (named 7 q u) ≡ same_text t u
-  name_part_row t u = go (same_text t u) refl
-    where
-      go : (b : Bool) → same_text t u ≡ b → same_row (named 7 p t) (named 7 q u) ≡ b
-      go true e = rw e
-      go false e = rw e
-
-  -- a prop's `@` is not looked at
-  prop_row : (t u : List ℕ) (v w : ℕ) → same_row (full 5 p t v) (full 5 q u w) ≡ same_text t u
-  prop_row t u v w = go (same_text t u) refl
-    where
-      go : (b : Bool) → same_text t u ≡ b → same_row (full 5 p t v) (full 5 q u w) ≡ b
-      go true e = rw e
-      go false e = rw e
+-- ------------------------------------------------------------------ two tests and more
 
 and-true : (b : Bool) → (b && true) ≡ b
 and-true true = refl
@@ -84,54 +39,34 @@ and-assoc true b c = refl
 and-assoc false b c = refl
 
 and-three : (a b c : Bool) → (a && (b && (c && true))) ≡ ((a && b) && c)
-and-three false b c = refl
-and-three true false c = refl
-and-three true true c = and-true c
+and-three a b c = rw (and-true c) (sym (and-assoc a b c))
 
 and-four : (a b c d : Bool) → (a && (b && (c && (d && true)))) ≡ (((a && b) && c) && d)
-and-four false b c d = refl
-and-four true false c d = refl
-and-four true true false d = refl
-and-four true true true d = and-true d
+and-four a b c d = rw (and-three b c d) (sym (and-assoc a (b && c) d) ∙ ap (λ (x : Bool). x && d) (sym (and-assoc a b c)))
 
-module _ (p q : ℕ) where
-  special_row : (v w : ℕ) → same_row (valued 31 p v) (valued 31 q w) ≡ eqb v w
-  unfolding same encode_all
-  special_row v w = and-true (eqb v w)
+-- ------------------------------------------------------------------ rows of one kind
 
-  repeat_row : (v w : ℕ) → same_row (valued 35 p v) (valued 35 q w) ≡ eqb v w
-  unfolding same encode_all
-  repeat_row v w = and-true (eqb v w)
+-- by their texts and their values, but for a prop's
+row-same : (k p q : ℕ) (t u : List ℕ) (v w : ℕ) → same_row (full k p t v) (full k q u w) ≡ (same_text t u && (eqb k 5 || eqb v w))
+row-same k p q t u v w = rw (eq-eqb k k refl) (and-true (same_text t u && (eqb k 5 || eqb v w)))
 
-  set_row : (v w : ℕ) → same_row (valued 37 p v) (valued 37 q w) ≡ eqb v w
-  unfolding same encode_all
-  set_row v w = and-true (eqb v w)
+-- by their texts
+text_row : (k p q : ℕ) (t u : List ℕ) → same_row (named k p t) (named k q u) ≡ same_text t u
+text_row k p q t u = row-same k p q t u 0 0 ∙ rw (or-true (eqb k 5)) (and-true (same_text t u))
 
-  class_row : (v w : ℕ) → same_row (valued 40 p v) (valued 40 q w) ≡ eqb v w
-  unfolding same encode_all
-  class_row v w = and-true (eqb v w)
+-- a prop's `@` is not looked at
+prop_row : (p q : ℕ) (t u : List ℕ) (v w : ℕ) → same_row (full 5 p t v) (full 5 q u w) ≡ same_text t u
+prop_row p q t u v w = row-same 5 p q t u v w ∙ and-true (same_text t u)
 
--- a row with neither text nor value
+-- by their values
+value_row : (k p q v w : ℕ) → eqb k 5 ≡ false → same_row (valued k p v) (valued k q w) ≡ eqb v w
+unfolding same encode_all
+value_row k p q v w e = row-same k p q [] [] v w ∙ rw e
+
+-- rows with neither
 plain-row : (k p q : ℕ) → same_row (plain k p) (plain k q) ≡ true
 unfolding same encode_all
-plain-row k p q = rw (eq-eqb k k refl) (go (eqb k 5))
-  where
-    go : (b : Bool) → ((b || true) && true) ≡ true
-    go true = refl
-    go false = refl
-
--- an explicitly empty sequence has another value
-empty-row : (p q : ℕ) → same_row (plain 34 p) (valued 34 q 1) ≡ false
-unfolding same encode_all
-empty-row p q = refl
-
-empties : (p q : ℕ) → same_row (valued 34 p 1) (valued 34 q 1) ≡ true
-unfolding same encode_all
-empties p q = refl
-
-row-empty : (p q : ℕ) → same_row (valued 34 p 1) (plain 34 q) ≡ false
-unfolding same encode_all
-row-empty p q = refl
+plain-row k p q = text_row k p q [] []
 
 -- ------------------------------------------------------------------ values
 
@@ -174,8 +109,8 @@ spans-same p q ss rs = refl
 
 part-same : (x y : PropPart ℕ) → same_branch (part_branch x) (part_branch y) ≡ same_part x y
 unfolding same_branch
-part-same (value p t) (value q u) = and-true (same_row (named 6 p t) (named 6 q u)) ∙ value_part_row p q t u
-part-same (name p t) (name q u) = and-true (same_row (named 7 p t) (named 7 q u)) ∙ name_part_row p q t u
+part-same (value p t) (value q u) = and-true (same_row (named 6 p t) (named 6 q u)) ∙ text_row 6 p q t u
+part-same (name p t) (name q u) = and-true (same_row (named 7 p t) (named 7 q u)) ∙ text_row 7 p q t u
 part-same x y = refl
 
 parts-same : (xs ys : List (PropPart ℕ)) → same_branches (each part_branch xs []ᴮ) (each part_branch ys []ᴮ) ≡ same_parts xs ys
@@ -282,21 +217,21 @@ mutual
   unfolding same_branch expression_branch structurally_eq
 
   arms : (e f : Expression ℕ) → same_branch (expression_branch e) (expression_branch f) ≡ structurally_eq e f
-  arms (Expression.name p t es) (Expression.name q u fs) = rw (name_row p q t u, arms-all es fs)
+  arms (Expression.name p t es) (Expression.name q u fs) = rw (text_row 30 p q t u, arms-all es fs)
   arms (special p k ps e f) (special q l qs g h) =
-      rw (special_row p q (specialize_value k) (specialize_value l), specialize-same k l, props-then e g (expression_branch f ∷ᴮ []ᴮ) (expression_branch h ∷ᴮ []ᴮ) ps qs, arms e g, arms f h)
+      rw (value_row 31 p q (specialize_value k) (specialize_value l) refl, specialize-same k l, props-then e g (expression_branch f ∷ᴮ []ᴮ) (expression_branch h ∷ᴮ []ᴮ) ps qs, arms e g, arms f h)
       (and-four (same_specialize k l) (same_props ps qs) (structurally_eq e g) (structurally_eq f h))
-  arms (inline p t ps e) (inline q u qs f) = rw (inline_row p q t u, props-then e f []ᴮ []ᴮ ps qs, arms e f) (and-three (same_text t u) (same_props ps qs) (structurally_eq e f))
+  arms (inline p t ps e) (inline q u qs f) = rw (text_row 32 p q t u, props-then e f []ᴮ []ᴮ ps qs, arms e f) (and-three (same_text t u) (same_props ps qs) (structurally_eq e f))
   arms (choice p es) (choice q fs) = rw (plain-row 33 p q) (arms-all es fs)
   arms (sequence p s) (sequence q t) = rw (plain-row 34 p q) (arms-slots s t)
-  arms (sequence p s) (empty q) = rw (empty-row p q)
-  arms (empty p) (sequence q t) = rw (row-empty p q)
-  arms (empty p) (empty q) = rw (empties p q)
-  arms (repeat p k e) (repeat q l f) = rw (repeat_row p q (repeat_value k) (repeat_value l), repeat-same k l, arms e f, and-true (structurally_eq e f))
-  arms (Expression.literal p t) (Expression.literal q u) = and-true (same_row (named 36 p t) (named 36 q u)) ∙ literal_row p q t u
-  arms (set p i ss) (set q j rs) = rw (set_row p q (flag i) (flag j), flag-same i j, spans-same p q ss rs)
+  arms (sequence p s) (empty q) = rw (value_row 34 p q 0 1 refl)
+  arms (empty p) (sequence q t) = rw (value_row 34 p q 1 0 refl)
+  arms (empty p) (empty q) = rw (value_row 34 p q 1 1 refl)
+  arms (repeat p k e) (repeat q l f) = rw (value_row 35 p q (repeat_value k) (repeat_value l) refl, repeat-same k l, arms e f, and-true (structurally_eq e f))
+  arms (Expression.literal p t) (Expression.literal q u) = and-true (same_row (named 36 p t) (named 36 q u)) ∙ text_row 36 p q t u
+  arms (set p i ss) (set q j rs) = rw (value_row 37 p q (flag i) (flag j) refl, flag-same i j, spans-same p q ss rs)
   arms (any p) (any q) = rw (plain-row 39 p q)
-  arms (class p c) (class q d) = and-true (same_row (valued 40 p (class_value c)) (valued 40 q (class_value d))) ∙ class_row p q (class_value c) (class_value d) ∙ class-same c d
+  arms (class p c) (class q d) = and-true (same_row (valued 40 p (class_value c)) (valued 40 q (class_value d))) ∙ value_row 40 p q (class_value c) (class_value d) refl ∙ class-same c d
   arms e f = refl
 
   arms-all : (es fs : Expressions ℕ) → same_branches (expression_branches es) (expression_branches fs) ≡ expressions_structurally_eq es fs
