@@ -26,12 +26,12 @@ pub struct Part {
 }
 
 impl Part {
-    // Its bytes.
+    // Its bytes, as far as they lie in the source.
     pub fn of(self, source: &[u8]) -> &[u8]
-        requires { (self.from ≤ self.to) × (self.to ≤ length source.now) }
         ensures { result.now ≡ cut source.now self.from self.to }
     {
-        &source[self.from..self.to]
+        let to = self.to.min(source.len());
+        &source[self.from.min(to)..to]
     }
 }
 
