@@ -224,6 +224,13 @@ impl NodeKind {
     }
 }
 
+// The kind that has a number is an expression's; a number that is no kind's is no expression's.
+pub fn is_expression(k: u32) -> bool
+    ensures { result ≡ is_expression k }
+{
+    matches!(NodeKind::try_from(k), Ok(kind) if kind.is_expression())
+}
+
 // `CharClass`, `RepeatKind`, `SpecializeKind`, `ConflictMarkerKind` and `PrecKind` of node.rs. Where they have numbers, these are the
 // values of their records.
 #[derive(Clone, Copy, Debug, PartialEq, Eq)]
@@ -865,14 +872,16 @@ impl<'a> Tree<'a> {
     }
 }
 
-// Stores a record at a place where it fits there, and says how many words it takes in any case. The whole and a place, here and in
-// `put_text`, and not the rest from there: what is stored is promised of the whole (`written`), as `parser` promises it of its store, and the
-// place may lie past the end.
+// Stores a record at a place where it fits there, and says how many words it takes in any case. The whole and a place, here, in `put_words`
+// and in `put_text`, and not the rest from there: what is stored is promised of the whole (`written`), as `parser` promises it of its store,
+// and the place may lie past the end.
 pub fn put(records: &mut [u32], at: usize, r: Record) -> usize
     ensures { (result ≡ width) × (records.new ≡ written records.old at (words_of (record_of r))) }
 {
-    if at <= records.len() && WIDTH <= records.len() - at {
-        records[at..at + WIDTH].copy_from_slice(&[
+    put_words(
+        records,
+        at,
+        [
             r.kind.number(),
             r.start,
             r.place,
@@ -880,7 +889,17 @@ pub fn put(records: &mut [u32], at: usize, r: Record) -> usize
             r.value,
             r.second,
             r.children,
-        ]);
+        ],
+    )
+}
+
+// The same of any seven words: the first may be the number of no kind. Inlined, so that the words go straight to their place.
+#[inline(always)]
+pub fn put_words(records: &mut [u32], at: usize, words: [u32; WIDTH]) -> usize
+    ensures { (result ≡ width) × (records.new ≡ written records.old at words) }
+{
+    if at <= records.len() && WIDTH <= records.len() - at {
+        records[at..at + WIDTH].copy_from_slice(&words);
     }
     WIDTH
 }
