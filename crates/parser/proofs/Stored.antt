@@ -97,10 +97,10 @@ stores-then {xs} {ys} {a} {b} {c} f g =
 -- ------------------------------------------------------------------ what is lent
 
 pub kept_then : {a b c : Store} → Kept a b → Kept b c → Kept a c
-kept_then f g = record { records = g.records ∙ f.records; texts = g.texts ∙ f.texts }
+kept_then f g = record { records = g.records ∙ f.records; texts = g.texts ∙ f.texts; words = g.words ∙ f.words; bytes = g.bytes ∙ f.bytes }
 
 pub kept_here : (a : Store) → Kept a a
-kept_here a = record { records = refl; texts = refl }
+kept_here a = record { records = refl; texts = refl; words = refl; bytes = refl }
 
 -- ------------------------------------------------------------------ one node
 

@@ -29,10 +29,12 @@ lent_of s = lent s.n s.records.now s.x s.texts.now
 abbrev pub nothing_lent : Store → Bool
 nothing_lent s = eqb (length s.records.now) 0 && eqb (length s.texts.now) 0
 
--- what is lent is the same as before: the words and bytes lie where they lay
+-- what is lent is the same as before: the words and bytes lie where they lay, and there are as many of each
 pub record Kept (a b : Store) : Type 0 where
   pub records : b.records.ghost_name ≡ a.records.ghost_name
   pub texts : b.texts.ghost_name ≡ a.texts.ghost_name
+  pub words : length b.records.now ≡ length a.records.now
+  pub bytes : length b.texts.now ≡ length a.texts.now
 
 -- Nodes are stored behind what is taken. All are counted; where the words have room for them they stand there as records, where the bytes
 -- have room their texts do, and the rest is as it was

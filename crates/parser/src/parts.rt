@@ -96,8 +96,24 @@ pub fn parse_name(
     ensures parses { Parses (parse_identifier (stream source.now token)) (nodes_of (name_branch (kind_number kind))) source.now token
         (lent_of store.old) (lent_of store.new) result }
 {
+    parse_name_numbered(source, token, kind.number(), store)
+}
+
+// The same with the kind by its number, which need be no kind's. Inlined for the same reason.
+#[inline(always)]
+pub fn parse_name_numbered(
+    source: &[u8],
+    token: Token,
+    kind: u32,
+    store: &mut Store,
+) -> Result<Token, Stop>
+    requires { Ready source.now token (lent_of store.old) }
+    ensures kept { Kept store.old store.new }
+    ensures parses { Parses (parse_identifier (stream source.now token)) (nodes_of (name_branch kind)) source.now token
+        (lent_of store.old) (lent_of store.new) result }
+{
     let (name, named) = tokens::parse_identifier(source, token)?;
-    store.put_named(kind, tokens::start(token), name.of(source), 0, 0);
+    store.put_named_numbered(kind, tokens::start(token), name.of(source), 0, 0);
     Ok(named)
 }
 

@@ -19,7 +19,9 @@ use tree::{NodeKind, Record};
 const WIDTH: usize = 7;
 
 // The words and bytes that are lent for a tree, and how many of each are taken. A function that is passed a `&mut Store` could put other
-// slices in it, and no type of a field forbids that: so `Kept`, that they are the same slices, is a clause.
+// slices in it, and no type of a field forbids that: so `Kept`, that they are the same slices, as long as they were, is a clause.
+// A node may have any number for its kind: what takes a number does the work, and what takes a `NodeKind` is inlined, so that it is the
+// same call.
 #[derive(Drop)]
 pub struct Store<'a> {
     pub records: &'a mut [u32],
@@ -49,46 +51,50 @@ impl<'a> Store<'a> {
     }
 
     // A record behind those that are taken, whose text has begun behind the texts that are taken.
-    fn put_record(&mut self, kind: NodeKind, start: usize, size: usize, value: u32, children: usize)
+    fn put_record(&mut self, kind: u32, start: usize, size: usize, value: u32, children: usize)
         requires { (self.old.n + 7 < 2 ^ 64) × (start < 2 ^ 32) × (self.old.x + size < 2 ^ 32) × (children < 2 ^ 32) }
         ensures kept { Kept self.old self.new }
         ensures taken { (self.new.n ≡ self.old.n + 7) × (self.new.x ≡ self.old.x + size) × (self.new.texts.now ≡ self.old.texts.now) }
         ensures words { self.new.records.now ≡ written self.old.records.now self.old.n
-            (kind_number kind ∷ start ∷ place_of self.old.x size ∷ size ∷ value ∷ 0 ∷ children ∷ []) }
+            (kind ∷ start ∷ place_of self.old.x size ∷ size ∷ value ∷ 0 ∷ children ∷ []) }
     {
-        let record = Record {
+        let words = [
             kind,
-            start: start as u32,
-            place: place(self.x, size) as u32,
-            size: size as u32,
+            start as u32,
+            place(self.x, size) as u32,
+            size as u32,
             value,
-            second: 0,
-            children: children as u32,
-        };
-        self.n += tree::put(self.records, self.n, record);
+            0,
+            children as u32,
+        ];
+        self.n += tree::put_words(self.records, self.n, words);
         self.x += size;
     }
 
     // A node without a text. It is no call of `put_record` with size 0, which asks a bound of `x`: this asks none.
+    #[inline(always)]
     pub fn put_plain(&mut self, kind: NodeKind, start: usize, value: u32, children: usize)
         requires { (self.old.n + 7 < 2 ^ 64) × (start < 2 ^ 32) × (children < 2 ^ 32) }
         ensures kept { Kept self.old self.new }
         ensures stores { Stores (node (kind_number kind) start [] value 0 children ∷ []) (lent_of self.old) (lent_of self.new) }
         ensures bytes { (self.new.x ≡ self.old.x) × (self.new.texts.now ≡ self.old.texts.now) }
     {
-        let record = Record {
-            kind,
-            start: start as u32,
-            place: 0,
-            size: 0,
-            value,
-            second: 0,
-            children: children as u32,
-        };
-        self.n += tree::put(self.records, self.n, record);
+        self.put_plain_numbered(kind.number(), start, value, children);
+    }
+
+    // The same with the kind by its number.
+    pub fn put_plain_numbered(&mut self, kind: u32, start: usize, value: u32, children: usize)
+        requires { (self.old.n + 7 < 2 ^ 64) × (start < 2 ^ 32) × (children < 2 ^ 32) }
+        ensures kept { Kept self.old self.new }
+        ensures stores { Stores (node kind start [] value 0 children ∷ []) (lent_of self.old) (lent_of self.new) }
+        ensures bytes { (self.new.x ≡ self.old.x) × (self.new.texts.now ≡ self.old.texts.now) }
+    {
+        let words = [kind, start as u32, 0, 0, value, 0, children as u32];
+        self.n += tree::put_words(self.records, self.n, words);
     }
 
     // A node with these bytes for its text.
+    #[inline(always)]
     pub fn put_named(
         &mut self,
         kind: NodeKind,
@@ -100,6 +106,22 @@ impl<'a> Store<'a> {
         requires { (self.old.n + 7 < 2 ^ 64) × (start < 2 ^ 32) × (children < 2 ^ 32) × (self.old.x + length text.now < 2 ^ 32) }
         ensures kept { Kept self.old self.new }
         ensures stores { Stores (node (kind_number kind) start text.now value 0 children ∷ []) (lent_of self.old) (lent_of self.new) }
+    {
+        self.put_named_numbered(kind.number(), start, text, value, children);
+    }
+
+    // The same with the kind by its number.
+    pub fn put_named_numbered(
+        &mut self,
+        kind: u32,
+        start: usize,
+        text: &[u8],
+        value: u32,
+        children: usize,
+    )
+        requires { (self.old.n + 7 < 2 ^ 64) × (start < 2 ^ 32) × (children < 2 ^ 32) × (self.old.x + length text.now < 2 ^ 32) }
+        ensures kept { Kept self.old self.new }
+        ensures stores { Stores (node kind start text.now value 0 children ∷ []) (lent_of self.old) (lent_of self.new) }
     {
         let size = tree::put_text(self.texts, self.x, text);
         self.put_record(kind, start, size, value, children);
@@ -121,10 +143,21 @@ impl<'a> Store<'a> {
     }
 
     // A node with the value of a string for its text; `children` counts nodes, and no bytes of `body`.
+    #[inline(always)]
     pub fn put_string(&mut self, kind: NodeKind, start: usize, body: &[u8], children: usize)
         requires { (self.old.n + 7 < 2 ^ 64) × (start < 2 ^ 32) × (children < 2 ^ 32) × (self.old.x + length body.now < 2 ^ 32) }
         ensures kept { Kept self.old self.new }
         ensures stores { Stores (node (kind_number kind) start (encode_all (decode_string (codes body.now))) 0 0 children ∷ []) (lent_of self.old) (lent_of self.new) }
+        ensures few { self.new.x ≤ self.old.x + length body.now }
+    {
+        self.put_string_numbered(kind.number(), start, body, children);
+    }
+
+    // The same with the kind by its number.
+    pub fn put_string_numbered(&mut self, kind: u32, start: usize, body: &[u8], children: usize)
+        requires { (self.old.n + 7 < 2 ^ 64) × (start < 2 ^ 32) × (children < 2 ^ 32) × (self.old.x + length body.now < 2 ^ 32) }
+        ensures kept { Kept self.old self.new }
+        ensures stores { Stores (node kind start (encode_all (decode_string (codes body.now))) 0 0 children ∷ []) (lent_of self.old) (lent_of self.new) }
         ensures few { self.new.x ≤ self.old.x + length body.now }
     {
         let size = self.put_value(body);

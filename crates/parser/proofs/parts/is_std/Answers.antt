@@ -5,9 +5,6 @@ use Rattle.parser.proofs.HeadRules.{std_spelled, part-spells}
 use mathlib.Core.Path.{refl}
 use Rattle.parser.proofs.parts.is_std.Goals as goal
 
-pub of-requires : goal.of-requires
-of-requires c = (c.requires.forth, c.requires.inside)
-
 pub returns-then-mark : goal.returns-then-mark
 unfolding every
 returns-then-mark c = std_spelled _ c.args.name c.args.token c.mark.ensures c.if-mark.true (part-spells _ (letters "std") c.requires refl (rw c.of.ensures at c.spells.ensures))

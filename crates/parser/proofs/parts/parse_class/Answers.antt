@@ -5,9 +5,6 @@ use Rattle.tokens.proofs.Stops.{stopped}
 use native.Mathlib.Omega.{arith}
 use Rattle.parser.proofs.parts.parse_class.Goals as goal
 
-pub of-requires : goal.of-requires
-of-requires c = (c.requires.2.forth, c.requires.2.inside)
-
 pub returns-in_default-clause-parses : goal.returns-in_default-clause-parses
 returns-in_default-clause-parses c = rw c.unexpected.ensures.0 (class-none _ _ _ (class_absent (rw c.of.ensures at c.from_name.ensures.text) c.requires.2.bytes c.in_default.is) c.unexpected.ensures.1)
 

@@ -6,9 +6,6 @@ use Rattle.tokens.proofs.Stops.{stopped}
 use native.Mathlib.Omega.{arith}
 use Rattle.parser.proofs.parts.parse_literal_expression.Goals as goal
 
-pub of-requires : goal.of-requires
-of-requires c = let h = (string-in c.requires.0 c.requires.1).part in (h.forth, h.inside)
-
 pub returns-in_err-after-clause-parses : goal.returns-in_err-after-clause-parses
 returns-in_err-after-clause-parses c = rw (stopped c.from_residual.result c.from_residual.ensures.1) (literal-refused _ _ _ _ c.in_err-after.ensures.0)
 

@@ -12,9 +12,6 @@ returns-in_err-marked-clause-parses c = rw (stopped c.from_residual.result c.fro
 pub returns-in_err-name-clause-parses : goal.returns-in_err-name-clause-parses
 returns-in_err-name-clause-parses c = rw (stopped c.from_residual-in_err-name.result c.from_residual-in_err-name.ensures.1) (marker-name _ _ _ c.in_ok-marked.ensures.0 c.in_err-name.ensures.takes)
 
-pub of-requires : goal.of-requires
-of-requires c = let h = (marker-named _ _ c.requires.0 c.requires.1 c.in_ok-marked.ensures c.in_ok-name.ensures).1.part in (h.forth, h.inside)
-
 pub put_named-requires : goal.put_named-requires
 put_named-requires c = rw c.of.ensures (put_asks c.requires.0 c.requires.0 c.start.ensures (omega arith) (part-short _ (marker-named _ _ c.requires.0 c.requires.1 c.in_ok-marked.ensures c.in_ok-name.ensures).1.part))
 

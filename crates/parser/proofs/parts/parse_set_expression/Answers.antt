@@ -1,13 +1,10 @@
 -- `parts::parse_set_expression` meets its contract.
 -- Assumes nothing.
-use Rattle.parser.proofs.PartRules.{set_in, spans_asks, set_asks, set_taken, set-sound, set-fault, set-refused, set-yields, flag_byte}
+use Rattle.parser.proofs.PartRules.{spans_asks, set_asks, set_taken, set-sound, set-fault, set-refused, set-yields, flag_byte}
 use Rattle.parser.specs.Storing.{lent_of}
 use Rattle.tokens.proofs.Stops.{stopped}
 use mathlib.Core.Path.{sym}
 use Rattle.parser.proofs.parts.parse_set_expression.Goals as goal
-
-pub of-requires : goal.of-requires
-of-requires c = let h = (set_in c.args.inverted c.args.body c.requires.0 c.requires.1).part in (h.forth, h.inside)
 
 pub put_spans-requires : goal.put_spans-requires
 put_spans-requires c = rw c.of.ensures (spans_asks c.args.inverted c.args.body c.requires.0 c.requires.1 c.start-start.ensures)

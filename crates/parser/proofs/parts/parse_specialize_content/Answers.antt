@@ -6,9 +6,6 @@ use Rattle.parser.proofs.Stored.{kept_here}
 use native.Mathlib.Omega.{arith}
 use Rattle.parser.proofs.parts.parse_specialize_content.Goals as goal
 
-pub of-requires : goal.of-requires
-of-requires c = let h = content-part c.requires c.in-Literal.is in (h.forth, h.inside)
-
 pub put_string-requires : goal.put_string-requires
 put_string-requires c = rw c.of.ensures (short_asks c.requires.small (part-short _ (content-part c.requires c.in-Literal.is)) c.requires.starts (omega arith) c.requires.room c.requires.space)
 

@@ -4,8 +4,5 @@ use Rattle.parser.proofs.HeadRules.{inline-part, short_asks}
 use Rattle.parser.proofs.Ready.{part-short}
 use Rattle.parser.proofs.parts.put_inline.Goals as goal
 
-pub of-requires : goal.of-requires
-of-requires c = let h = inline-part c.requires.part c.in-Some.is in (h.forth, h.inside)
-
 pub put_named-requires : goal.put_named-requires
 put_named-requires c = rw c.of.ensures (short_asks c.requires.small (part-short _ (inline-part c.requires.part c.in-Some.is)) c.requires.starts c.requires.few c.requires.room c.requires.space)

@@ -3,12 +3,9 @@
 use native.Mathlib.Omega.{arith}
 use mathlib.Core.Path.{ap, ◌∙◌}
 use Rattle.tokens.specs.Promise.{code_in, name_part}
-use Rattle.parser.proofs.Ready.{ready_as, name_in_lem, is_name}
+use Rattle.parser.proofs.Ready.{ready_as}
 use Rattle.parser.proofs.PropRules.{part_none, end_by, at-by, set-by, mark-by, name-value, dot_value}
 use Rattle.parser.proofs.props.parse_part.Goals as goal
-
-pub of-requires : goal.of-requires
-of-requires c = let h = (name_in_lem c.requires (is_name c.in-Of.is c.in-Identifier.is)).part in (h.forth, h.inside)
 
 pub part_value-requires : goal.part_value-requires
 part_value-requires c = let r = ready_as c.in-Of.is c.requires in (r, rw c.of.ensures (name-value _ _ r.lies (ap name_part c.in-Identifier.is)))

@@ -16,9 +16,6 @@ returns-in_err-name-clause-parses c = rw (stopped c.from_residual-in_err-name.re
 pub returns-in_err-closed-clause-parses : goal.returns-in_err-closed-clause-parses
 returns-in_err-closed-clause-parses c = rw (stopped c.from_residual-in_err-closed.result c.from_residual-in_err-closed.ensures.1) (braced-unclosed _ _ c.requires.1 c.in_ok-opened.ensures.0 c.in_ok-name.ensures.takes (c.in_err-closed.ensures.expects "}" refl))
 
-pub of-requires : goal.of-requires
-of-requires c = let h = (braced-name _ _ c.requires.1 c.requires.0 c.in_ok-opened.ensures c.in_ok-name.ensures).1 in (h.part.forth, h.part.inside)
-
 pub put_named-requires : goal.put_named-requires
 put_named-requires c = rw c.of.ensures (put_asks c.requires.0 c.requires.0 c.start.ensures (omega arith) (part-short _ (braced-name _ _ c.requires.1 c.requires.0 c.in_ok-opened.ensures c.in_ok-name.ensures).1.part))
 

@@ -9,9 +9,6 @@ use Rattle.parser.proofs.props.part_string.Goals as goal
 pub returns-in_err-after-clause-parses : goal.returns-in_err-after-clause-parses
 returns-in_err-after-clause-parses c = rw (stopped c.from_residual.result c.from_residual.ensures.1) (string-refused _ _ c.requires.1 c.in_err-after.ensures.0)
 
-pub of-requires : goal.of-requires
-of-requires c = let h = string-in c.requires.0 c.requires.1 in (h.part.forth, h.part.inside)
-
 pub put_string-requires : goal.put_string-requires
 put_string-requires c = rw c.of.ensures (put_asks c.requires.0 c.requires.0 c.start.ensures (omega arith) (part-short _ (string-in c.requires.0 c.requires.1).part))
 

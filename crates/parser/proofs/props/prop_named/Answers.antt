@@ -17,9 +17,6 @@ parse_value-requires c = ready_step c.requires.0 (prop-next _ _ c.args.at c.args
 pub returns-in_err-after-clause-parses : goal.returns-in_err-after-clause-parses
 returns-in_err-after-clause-parses c = rw (stopped c.from_residual-in_err-after.result c.from_residual-in_err-after.ensures.1) (prop-value_halt _ _ c.args.at c.args.name c.requires.1 c.in_ok-named.ensures.0 c.in_err-after.ensures.parses)
 
-pub of-requires : goal.of-requires
-of-requires c = let h = prop-held _ _ c.args.at c.args.name c.requires.0 c.requires.1 in (h.part.forth, h.part.inside)
-
 pub put_named-requires : goal.put_named-requires
 put_named-requires c =
     let l = c.in_ok-after.ensures.parses in

@@ -1,10 +1,10 @@
--- `store::Store::put_named` meets its contract.
+-- `store::Store::put_named_numbered` meets its contract.
 -- Assumes nothing.
 use mathlib.Core.Path.{ap, ◌∙◌}
 use lib.ListN.{length}
 use Rattle.characters.proofs.Written.{length-written}
 use Rattle.parser.proofs.Stored.{stores_one}
-use Rattle.parser.proofs.store.Store.put_named.Goals as goal
+use Rattle.parser.proofs.store.Store.put_named_numbered.Goals as goal
 
 pub returns-clause-stores : goal.returns-clause-stores
 returns-clause-stores c =

@@ -1,9 +1,9 @@
--- `store::Store::put_string` meets its contract.
+-- `store::Store::put_string_numbered` meets its contract.
 -- Assumes nothing.
 use mathlib.Core.Path.{ap, ◌∙◌}
 use lib.ListN.{length}
 use Rattle.parser.proofs.Stored.{stores_one}
-use Rattle.parser.proofs.store.Store.put_string.Goals as goal
+use Rattle.parser.proofs.store.Store.put_string_numbered.Goals as goal
 
 pub returns-clause-stores : goal.returns-clause-stores
 returns-clause-stores c =
