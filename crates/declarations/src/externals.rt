@@ -28,7 +28,8 @@ pub fn parse_source(source: &[u8], token: Token) -> Result<(Part, Token), Stop>
     tokens::expect_string(source, from)
 }
 
-// A name and its source, as a record of a kind that starts at `start`.
+// A name and its source, as a record of a kind that starts at `start`. Inlined: the call is the one by the kind's number.
+#[inline(always)]
 pub fn parse_from(
     source: &[u8],
     token: Token,
@@ -41,10 +42,26 @@ pub fn parse_from(
     ensures parses { Parses (from_source (stream source.now token)) (nodes_of (from_branch (kind_number kind) start)) source.now token
         (lent_of store.old) (lent_of store.new) result }
 {
+    parse_from_numbered(source, token, kind.number(), start, store)
+}
+
+// The same with the kind by its number, which need be no kind's.
+pub fn parse_from_numbered(
+    source: &[u8],
+    token: Token,
+    kind: u32,
+    start: usize,
+    store: &mut Store,
+) -> Result<Token, Stop>
+    requires { Ready source.now token (lent_of store.old) × (start ≤ length source.now) }
+    ensures kept { Kept store.old store.new }
+    ensures parses { Parses (from_source (stream source.now token)) (nodes_of (from_branch kind start)) source.now token
+        (lent_of store.old) (lent_of store.new) result }
+{
     let (name, named) = tokens::parse_identifier(source, token)?;
     let (from, after) = parse_source(source, named)?;
     store.put_string(NodeKind::Source, 0, from.of(source), 0);
-    store.put_named(kind, start, name.of(source), 0, 1);
+    store.put_named_numbered(kind, start, name.of(source), 0, 1);
     Ok(after)
 }
 

@@ -15,13 +15,14 @@ ghost use Rattle.declarations.specs.Promise.{literal_at};
 use error::{Cause, Stop};
 use lexer::{Part, Token};
 use parser::parts::Shape;
-pub use parser::parts::parse_name;
+pub use parser::parts::{parse_name, parse_name_numbered};
 use parser::props::Comma;
 use parser::store::Store;
 use parser::{LEVELS, parts, props};
 use tree::NodeKind;
 
-// A rule, as a record of a kind.
+// A rule, as a record of a kind. Inlined, as is all here that takes a `NodeKind`: the call is the one by its number.
+#[inline(always)]
 pub fn parse_rule(
     source: &[u8],
     token: Token,
@@ -33,10 +34,25 @@ pub fn parse_rule(
     ensures parses { Parses (parse_rule (stream source.now token)) (nodes_of (rule_branch (kind_number kind))) source.now token
         (lent_of store.old) (lent_of store.new) result }
 {
+    parse_rule_numbered(source, token, kind.number(), store)
+}
+
+// The same with the kind by its number, which need be no kind's.
+pub fn parse_rule_numbered(
+    source: &[u8],
+    token: Token,
+    kind: u32,
+    store: &mut Store,
+) -> Result<Token, Stop>
+    requires { Ready source.now token (lent_of store.old) }
+    ensures kept { Kept store.old store.new }
+    ensures parses { Parses (parse_rule (stream source.now token)) (nodes_of (rule_branch kind)) source.now token
+        (lent_of store.old) (lent_of store.new) result }
+{
     let (name, named) = tokens::parse_identifier(source, token)?;
     let head = parts::rule_head(source, named, store)?;
     let body = parser::braced(source, LEVELS, head.token, store)?;
-    store.put_named(
+    store.put_named_numbered(
         kind,
         tokens::start(token),
         name.of(source),
@@ -69,6 +85,7 @@ pub fn parse_token_reference(
 }
 
 // Names in braces, as records of a kind.
+#[inline(always)]
 pub fn parse_names(
     source: &[u8],
     token: Token,
@@ -80,9 +97,24 @@ pub fn parse_names(
     ensures parses { ParsesList (names (stream source.now token)) (nodes_of (name_branch (kind_number kind))) source.now token 2
         (lent_of store.old) (lent_of store.new) result }
 {
+    parse_names_numbered(source, token, kind.number(), store)
+}
+
+// The same with the kind by its number, which need be no kind's.
+pub fn parse_names_numbered(
+    source: &[u8],
+    token: Token,
+    kind: u32,
+    store: &mut Store,
+) -> Result<(Token, usize), Stop>
+    requires { Ready source.now token (lent_of store.old) }
+    ensures kept { Kept store.old store.new }
+    ensures parses { ParsesList (names (stream source.now token)) (nodes_of (name_branch kind)) source.now token 2
+        (lent_of store.old) (lent_of store.new) result }
+{
     let opened = tokens::expect_punctuation(source, token, '{' as u32)?;
     let name = |source: &[u8], token: Token, store: &mut Store| {
-        parse_name(source, token, kind, store)
+        parse_name_numbered(source, token, kind, store)
     };
     props::until(source, opened, '}' as u32, Comma::May, name, store)
 }

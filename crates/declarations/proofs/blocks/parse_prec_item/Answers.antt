@@ -15,9 +15,6 @@ parse_prec_kind-requires c = (name-got _ c.requires.lies c.in_ok-name.ensures).1
 pub returns-in_err-kind-clause-parses : goal.returns-in_err-kind-clause-parses
 returns-in_err-kind-clause-parses c = rw (stopped c.from_residual-in_err-kind.result c.from_residual-in_err-kind.ensures.1) (item_kindless _ c.in_ok-name.ensures.takes c.in_err-kind.ensures)
 
-pub of-requires : goal.of-requires
-of-requires c = let h = (name-got _ c.requires.lies c.in_ok-name.ensures).0.part in (h.forth, h.inside)
-
 pub put_named-requires : goal.put_named-requires
 put_named-requires c = rw c.of.ensures (put_asks c.requires c.requires c.start.ensures (omega arith) (part-short _ (name-got _ c.requires.lies c.in_ok-name.ensures).0.part))
 

@@ -23,22 +23,13 @@ parse_source-requires c = c.in_ok-id.ensures.onward.lies
 pub returns-in_err-from-clause-parses : goal.returns-in_err-from-clause-parses
 returns-in_err-from-clause-parses c = rw (stopped c.from_residual-in_err-from.result c.from_residual-in_err-from.ensures.1) (prop-source _ _ c.in_ok-name.ensures.takes c.in_ok-id.ensures.gives c.in_err-from.ensures)
 
-pub of-requires : goal.of-requires
-of-requires c = let h = (name-got _ c.requires.0.lies c.in_ok-name.ensures).0.part in (h.forth, h.inside)
-
 pub put_named-requires : goal.put_named-requires
 put_named-requires c = rw c.of.ensures (put_asks c.requires.0 c.requires.0 c.start.ensures (omega arith) (part-short _ (name-got _ c.requires.0.lies c.in_ok-name.ensures).0.part))
-
-pub of-requires-2 : goal.of-requires-2
-of-requires-2 c = let h = c.in_ok-from.ensures.part in (h.forth, h.inside)
 
 pub put_string-requires : goal.put_string-requires
 put_string-requires c =
     let w = name-next c.requires.0 (part-short _ (name-got _ c.requires.0.lies c.in_ok-name.ensures).0.part) (rw c.of.ensures at c.put_named.ensures.stores) in
     rw c.of-2.ensures (short_asks c.requires.0.small (part-short _ c.in_ok-from.ensures.part) (omega arith) (omega arith) (let k = w.0 in omega arith) (let k = w.1 in omega arith))
-
-pub of-requires-3 : goal.of-requires-3
-of-requires-3 c = let h = c.in_ok-id.ensures.part in (h.forth, h.inside)
 
 pub put_named-requires-2 : goal.put_named-requires-2
 put_named-requires-2 c =

@@ -16,9 +16,6 @@ parse_props-requires c = ready_step c.requires.0 (literal-on _ _ c.requires.0 c.
 pub returns-in_err-after-clause-parses : goal.returns-in_err-after-clause-parses
 returns-in_err-after-clause-parses c = rw (stopped c.from_residual-in_err-after.result c.from_residual-in_err-after.ensures.1) (literal-props _ _ _ c.in_ok-literal.ensures.0 c.in_err-after.ensures.parses)
 
-pub of-requires : goal.of-requires
-of-requires c = let h = (string-in c.requires.0 c.requires.1).part in (h.forth, h.inside)
-
 pub put_string-requires : goal.put_string-requires
 put_string-requires c =
     let l = c.in_ok-after.ensures.parses in

@@ -16,9 +16,6 @@ parse_props-requires c = ready_step c.requires (name-got _ c.requires.lies c.in_
 pub returns-in_err-after-clause-parses : goal.returns-in_err-after-clause-parses
 returns-in_err-after-clause-parses c = rw (stopped c.from_residual-in_err-after.result c.from_residual-in_err-after.ensures.1) (node-props _ c.in_ok-name.ensures.takes c.in_err-after.ensures.parses)
 
-pub of-requires : goal.of-requires
-of-requires c = let h = (name-got _ c.requires.lies c.in_ok-name.ensures).0.part in (h.forth, h.inside)
-
 pub put_named-requires : goal.put_named-requires
 put_named-requires c =
     let n = name-got _ c.requires.lies c.in_ok-name.ensures in

@@ -1,10 +1,10 @@
--- `rules::parse_rule` meets its contract.
+-- `rules::parse_rule_numbered` meets its contract.
 -- Assumes nothing.
 use Rattle.declarations.proofs.RuleReads.{rule-name, rule-head, rule-body, head_small, rule-given}
 use Rattle.parser.proofs.Ready.{ready_step, ready_on, name-got, put_asks, part-short}
 use Rattle.tokens.proofs.Stops.{stopped}
 use native.Mathlib.Omega.{arith}
-use Rattle.declarations.proofs.rules.parse_rule.Goals as goal
+use Rattle.declarations.proofs.rules.parse_rule_numbered.Goals as goal
 
 pub returns-in_err-name-clause-parses : goal.returns-in_err-name-clause-parses
 returns-in_err-name-clause-parses c = rw (stopped c.from_residual.result c.from_residual.ensures.1) (rule-name _ c.in_err-name.ensures.takes)
@@ -23,21 +23,18 @@ braced-requires c =
 pub returns-in_err-body-clause-parses : goal.returns-in_err-body-clause-parses
 returns-in_err-body-clause-parses c = rw (stopped c.from_residual-in_err-body.result c.from_residual-in_err-body.ensures.1) (rule-body _ c.in_ok-name.ensures.takes c.in_ok-head.ensures.parses.gives c.in_err-body.ensures.parses)
 
-pub of-requires : goal.of-requires
-of-requires c = let h = (name-got _ c.requires.lies c.in_ok-name.ensures).0.part in (h.forth, h.inside)
-
 pub overflow_add-head : goal.overflow_add-head
 overflow_add-head c = omega (arith, head_small c.in_ok-head.ensures.parses c.requires.small)
 
 pub overflow_add-head-2 : goal.overflow_add-head-2
 overflow_add-head-2 c = omega (arith, head_small c.in_ok-head.ensures.parses c.requires.small)
 
-pub put_named-requires : goal.put_named-requires
-put_named-requires c =
+pub put_named_numbered-requires : goal.put_named_numbered-requires
+put_named_numbered-requires c =
     let n = name-got _ c.requires.lies c.in_ok-name.ensures in
     let h = c.in_ok-head.ensures.parses in
     let g = c.in_ok-body.ensures.parses in
     rw c.of.ensures (put_asks c.requires (ready_on (ready_on (ready_step c.requires n.1.onward) h.onward h.lays) g.yields.onward g.yields.lays) c.start.ensures (omega (arith, head_small h c.requires.small)) (part-short _ n.0.part))
 
 pub returns-clause-parses : goal.returns-clause-parses
-returns-clause-parses c = rule-given _ _ _ c.requires.lies c.in_ok-name.ensures c.in_ok-head.ensures.parses c.in_ok-body.ensures.parses c.start.ensures (rw c.of.ensures at c.put_named.ensures.stores)
+returns-clause-parses c = rule-given _ _ _ c.requires.lies c.in_ok-name.ensures c.in_ok-head.ensures.parses c.in_ok-body.ensures.parses c.start.ensures (rw c.of.ensures at c.put_named_numbered.ensures.stores)

@@ -1,4 +1,4 @@
--- `rules::parse_names` meets its contract.
+-- `rules::parse_names_numbered` meets its contract.
 -- Assumes nothing.
 use Rattle.declarations.proofs.RuleReads.{block_refused, block_list}
 use Prim.Native.Nat.{ℕ}
@@ -13,11 +13,10 @@ use Rattle.parser.proofs.Onward.{expect-onward}
 use Rattle.parser.proofs.Ready.{ready_step}
 use Rattle.parser.specs.Storing.{lent_of, Kept, nodes_of}
 use Rattle.tokens.proofs.Stops.{stopped}
-use Rattle.tree.specs.Promise.{kind_number}
 use Rattle.tree.specs.Stored.{name_branch}
 use mathlib.Core.Path.{refl}
 use native.Mathlib.Omega.{arith}
-use Rattle.declarations.proofs.rules.parse_names.Goals as goal
+use Rattle.declarations.proofs.rules.parse_names_numbered.Goals as goal
 
 pub returns-in_err-opened-clause-parses : goal.returns-in_err-opened-clause-parses
 returns-in_err-opened-clause-parses c = rw (stopped c.from_residual.result c.from_residual.ensures.1) (block_refused comma_or_not (λ _. parse_identifier) _ (c.in_err-opened.ensures.expects "{" refl))
@@ -31,25 +30,25 @@ until-requires c =
       ready = ready_step c.requires (expect-onward _ "{" _ (omega arith) c.requires.lies c.in_ok-opened.ensures);
       calls = λ b t m e h. search rules;
       reads = (
-        listed (kind_number c.args.kind),
+        listed c.args.kind,
         record {
           is = refl;
           some = omega arith;
           each = λ b t m r n e h p.
-              let q : Kept m.now n.now × Parses (parse_identifier (stream b.now t)) (nodes_of (name_branch (kind_number c.args.kind))) b.now t (lent_of m.now) (lent_of n.now) r = search rules in
-              one-stored (nodes_of (name_branch (kind_number c.args.kind))) parse_identifier _ b t m n r e q.0 q.1;
+              let q : Kept m.now n.now × Parses (parse_identifier (stream b.now t)) (nodes_of (name_branch c.args.kind)) b.now t (lent_of m.now) (lent_of n.now) r = search rules in
+              one-stored (nodes_of (name_branch c.args.kind)) parse_identifier _ b t m n r e q.0 q.1;
         },
       );
     }
 
 pub returns-clause-parses : goal.returns-clause-parses
 returns-clause-parses c =
-    block_list comma_or_not (λ _. parse_identifier) (nodes_of (name_branch (kind_number c.args.kind))) _ _ c.requires.lies c.in_ok-opened.ensures _ _ c.until.result
-    (list_back (nodes_of (name_branch (kind_number c.args.kind))) (eat "}") (between_by May) parse_identifier c.args.source.now c.in_ok-opened.opened 1 _ _ c.until.result
-    (c.until.ensures.parses (listed (kind_number c.args.kind)) (record {
+    block_list comma_or_not (λ _. parse_identifier) (nodes_of (name_branch c.args.kind)) _ _ c.requires.lies c.in_ok-opened.ensures _ _ c.until.result
+    (list_back (nodes_of (name_branch c.args.kind)) (eat "}") (between_by May) parse_identifier c.args.source.now c.in_ok-opened.opened 1 _ _ c.until.result
+    (c.until.ensures.parses (listed c.args.kind) (record {
       is = refl;
       some = omega arith;
       each = λ b t m r n e h p.
-          let q : Kept m.now n.now × Parses (parse_identifier (stream b.now t)) (nodes_of (name_branch (kind_number c.args.kind))) b.now t (lent_of m.now) (lent_of n.now) r = search rules in
-          one-stored (nodes_of (name_branch (kind_number c.args.kind))) parse_identifier _ b t m n r e q.0 q.1;
+          let q : Kept m.now n.now × Parses (parse_identifier (stream b.now t)) (nodes_of (name_branch c.args.kind)) b.now t (lent_of m.now) (lent_of n.now) r = search rules in
+          one-stored (nodes_of (name_branch c.args.kind)) parse_identifier _ b t m n r e q.0 q.1;
     })))
