@@ -23,6 +23,7 @@ use Rattle.reader.specs.declared.blocks.Block.{Block}
 use Rattle.reader.specs.declared.blocks.Block.TheVariants.{Skip}
 use Rattle.reader.specs.declared.directives.Seen.{Seen}
 use Rattle.reader.specs.declared.directives.Declared.{Declared}
+use Rattle.reader.specs.declared.directives.DeclaredNumbered.{DeclaredNumbered}
 
 -- the token is taken, and then what p reads
 abbrev pub past : {A : Type 0} → Parser ℕ A → Parser ℕ A
@@ -103,6 +104,10 @@ pub record SeenIs (k : Seen) (before : List (Member ℕ)) : Type 0 where
 -- what was read is a declaration of a kind
 abbrev pub declared_of : NodeKind → (top : Bool) → Token → Declared
 declared_of k top t = record { token = t; kind = k; top = top }
+
+-- the same by the number of a kind
+abbrev pub declared_numbered : (kind : ℕ) → (top : Bool) → Token → DeclaredNumbered
+declared_numbered k top t = record { token = t; kind = k; top = top }
 
 -- with these kinds before, D is a member whose branches are stored
 pub record Declares (D : List (Member ℕ) → Answer ℕ (Member ℕ)) (k : Seen) (s : List ℕ) (t : Token) (a : Lent) (u : Token) (b : Lent) (kind : ℕ) (top : Bool) : Type 0 where

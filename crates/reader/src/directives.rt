@@ -14,7 +14,7 @@ ghost use Rattle.parser.specs.Storing.{lent_of, Kept, nodes_of};
 ghost use Rattle.parser.specs.Steps.{Parses};
 ghost use Rattle.parser.specs.Shapes.{IsToken};
 ghost use Rattle.reader.specs.Blocks.{Roomy};
-ghost use Rattle.reader.specs.Directives.{past, local_at, tokens_branch, local_branch, external_set, set_nodes, Scopes, declared_of, DeclaresTo};
+ghost use Rattle.reader.specs.Directives.{past, local_at, tokens_branch, local_branch, external_set, set_nodes, Scopes, declared_of, declared_numbered, DeclaresTo};
 
 use crate::blocks;
 use crate::blocks::{Block, Extent, GROUPS};
@@ -51,6 +51,21 @@ pub fn of_kind(token: Token, kind: NodeKind, top: bool) -> Declared
     ensures { result ≡ declared_of kind top token }
 {
     Declared { token, kind, top }
+}
+
+// The same with the kind by its number, which need be no kind's: so it is no `Declared`.
+#[derive(Clone, Copy, Debug, PartialEq, Eq)]
+pub struct DeclaredNumbered {
+    pub token: Token,
+    pub kind: u32,
+    pub top: bool,
+}
+
+// What was read is a declaration of a kind that is given by its number.
+pub fn of_kind_numbered(token: Token, kind: u32, top: bool) -> DeclaredNumbered
+    ensures { result ≡ declared_numbered kind top token }
+{
+    DeclaredNumbered { token, kind, top }
 }
 
 // `@tokens`, at its keyword.

@@ -18,9 +18,6 @@ parse_source-requires c = (name-got _ c.requires.0.lies c.in_ok-name.ensures).1.
 pub returns-in_err-from-clause-parses : goal.returns-in_err-from-clause-parses
 returns-in_err-from-clause-parses c = rw (stopped c.from_residual-in_err-from.result c.from_residual-in_err-from.ensures.1) (set-source _ _ c.in_ok-name.ensures.takes c.in_err-from.ensures)
 
-pub of-requires : goal.of-requires
-of-requires c = let h = c.in_ok-from.ensures.part in (h.forth, h.inside)
-
 pub put_string-requires : goal.put_string-requires
 put_string-requires c =
     let r = roomy_ready c.requires.0 in
@@ -33,9 +30,6 @@ parse_block-requires c = set_room c.requires.0 c.in_ok-name.ensures c.in_ok-from
 pub returns-in_err-after-clause-parses : goal.returns-in_err-after-clause-parses
 returns-in_err-after-clause-parses c =
     rw (stopped c.from_residual-in_err-after.result c.from_residual-in_err-after.ensures.1) (set-block _ _ c.in_ok-name.ensures.takes c.in_ok-from.ensures.gives c.in_err-after.ensures.gathers)
-
-pub of-requires-2 : goal.of-requires-2
-of-requires-2 c = let h = (name-got _ c.requires.0.lies c.in_ok-name.ensures).0.part in (h.forth, h.inside)
 
 pub overflow_add-before : goal.overflow_add-before
 overflow_add-before c = omega (arith, c.requires.2)
