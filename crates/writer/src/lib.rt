@@ -341,8 +341,8 @@ fn between(
 impl<'a> Row<'a> {
     // It stands in round brackets.
     #[tactic(auto, unfolding(crate::specs::Walk::in_brackets))]
-    fn is_bracketed(self, setting: Setting) -> bool
-        ensures { result ≡ in_brackets (setting_number setting) (kind_number self.entry.kind) self.entry.value }
+    fn is_bracketed(&self, setting: Setting) -> bool
+        ensures { result ≡ in_brackets (setting_number setting) (kind_number self.now.kind) self.now.value }
     {
         match self.kind {
             NodeKind::Choice => setting == Setting::Arms || setting == Setting::Slots,
@@ -355,8 +355,8 @@ impl<'a> Row<'a> {
 
     // What stands before it: a space, or an opening bracket.
     #[tactic(auto, unfolding(crate::specs::Walk::lead))]
-    fn lead(self, setting: Setting) -> &'static [u8]
-        ensures { result.now ≡ lead (setting_number setting) (kind_number self.entry.kind) self.entry.value }
+    fn lead(&self, setting: Setting) -> &'static [u8]
+        ensures { result.now ≡ lead (setting_number setting) (kind_number self.now.kind) self.now.value }
     {
         if self.is_bracketed(setting) {
             b" ("
@@ -369,8 +369,8 @@ impl<'a> Row<'a> {
 
     // What stands after it: a closing bracket, or a line feed.
     #[tactic(auto, unfolding(crate::specs::Walk::ends))]
-    fn ends(self, setting: Setting) -> &'static [u8]
-        ensures { result.now ≡ ends (setting_number setting) (kind_number self.entry.kind) self.entry.value }
+    fn ends(&self, setting: Setting) -> &'static [u8]
+        ensures { result.now ≡ ends (setting_number setting) (kind_number self.now.kind) self.now.value }
     {
         if self.is_bracketed(setting) {
             b" )"
@@ -382,8 +382,8 @@ impl<'a> Row<'a> {
     }
 
     // Its own text: a string, a span's codes, none where it stands before the source string, or a name.
-    fn put_spelled(self, out: &mut [u8]) -> usize
-        ensures { Wrote (spelled (row_of self.entry)) out.old out.new result }
+    fn put_spelled(&self, out: &mut [u8]) -> usize
+        ensures { Wrote (spelled (row_of self.now)) out.old out.new result }
     {
         match self.kind {
             NodeKind::PartText | NodeKind::TokenLiteral | NodeKind::Source | NodeKind::Literal => {
@@ -400,8 +400,8 @@ impl<'a> Row<'a> {
     }
 
     // The record by itself: what stands before its text, that, and what stands after it.
-    fn put_own(self, out: &mut [u8]) -> usize
-        ensures { Wrote (own (row_of self.entry)) out.old out.new result }
+    fn put_own(&self, out: &mut [u8]) -> usize
+        ensures { Wrote (own (row_of self.now)) out.old out.new result }
     {
         let mut n = put(before(self.kind, self.value), out);
         let a = upto(n, out.len());
@@ -411,8 +411,8 @@ impl<'a> Row<'a> {
     }
 
     // The record's name before a child that is a source string.
-    fn put_source(self, child: NodeKind, out: &mut [u8]) -> usize
-        ensures { Wrote (source (row_of self.entry).text (kind_number child)) out.old out.new result }
+    fn put_source(&self, child: NodeKind, out: &mut [u8]) -> usize
+        ensures { Wrote (source (row_of self.now).text (kind_number child)) out.old out.new result }
     {
         let NodeKind::Source = child else {
             return 0;
@@ -425,8 +425,8 @@ impl<'a> Row<'a> {
     }
 
     // What stands between two of its children.
-    fn put_link(self, left: Option<NodeKind>, child: NodeKind, out: &mut [u8]) -> usize
-        ensures { Wrote (link (row_of self.entry) (number_of left) (kind_number child)) out.old out.new result }
+    fn put_link(&self, left: Option<NodeKind>, child: NodeKind, out: &mut [u8]) -> usize
+        ensures { Wrote (link (row_of self.now) (number_of left) (kind_number child)) out.old out.new result }
     {
         let (end, start) = between(self.kind, left, child);
         let mut n = put(end, out);
@@ -437,8 +437,8 @@ impl<'a> Row<'a> {
     }
 
     // All that stands before the children of a child, behind one of the class `left`.
-    fn put_front(self, left: Option<NodeKind>, row: Row, out: &mut [u8]) -> usize
-        ensures { Wrote (front (row_of self.entry) (number_of left) (row_of row.entry)) out.old out.new result }
+    fn put_front(&self, left: Option<NodeKind>, row: &Row, out: &mut [u8]) -> usize
+        ensures { Wrote (front (row_of self.now) (number_of left) (row_of row.now)) out.old out.new result }
     {
         let mut n = self.put_link(left, class(row.kind), out);
         let a = upto(n, out.len());
@@ -448,16 +448,16 @@ impl<'a> Row<'a> {
     }
 
     // The class of the last branch that ends before the record `end`, if one does.
-    fn class_before(self, end: usize) -> Option<NodeKind>
-        requires { end ≤ count_of self.tree.records.now }
-        ensures { number_of result ≡ class_d (kind_at self.entry.tree.records.now end) }
+    fn class_before(&self, end: usize) -> Option<NodeKind>
+        requires { end ≤ count_of self.now.tree.records.now }
+        ensures { number_of result ≡ class_d (kind_at self.now.tree.records.now end) }
     {
         Some(class(kind_before(self.tree.records, end)?))
     }
 
     // The class of its last child, if it has one.
-    fn last_class(self) -> Option<NodeKind>
-        ensures { number_of result ≡ last_at self.entry.tree.records.now self.entry.i }
+    fn last_class(&self) -> Option<NodeKind>
+        ensures { number_of result ≡ last_at self.now.tree.records.now self.now.i }
     {
         if word(self.tree.records, self.i, CHILDREN) == 0 {
             return None;
@@ -466,8 +466,8 @@ impl<'a> Row<'a> {
     }
 
     // All that stands after the children of a child.
-    fn put_back(self, row: Row, out: &mut [u8]) -> usize
-        ensures { Wrote (back (row_of self.entry).kind (row_of row.entry) (last_at row.entry.tree.records.now row.entry.i)) out.old out.new result }
+    fn put_back(&self, row: &Row, out: &mut [u8]) -> usize
+        ensures { Wrote (back (row_of self.now).kind (row_of row.now) (last_at row.now.tree.records.now row.now.i)) out.old out.new result }
     {
         let mut n = put(close(row.kind, row.value, row.last_class()), out);
         let a = upto(n, out.len());
@@ -488,30 +488,30 @@ fn children(records: &[u32], i: usize) -> usize
 
 // The branch whose record is i, a child of the record `parent` behind one of the class `left`.
 #[cycle(one_run)]
-fn one(parent: Row, left: Option<NodeKind>, i: usize, out: &mut [u8]) -> usize
-    requires { (i < count_of parent.tree.records.now) × Run parent.tree.records.now parent.tree.texts.now (word_at parent.tree.records.now i 6) i }
-    ensures { WroteOne parent.entry.tree.records.now parent.entry.tree.texts.now parent.entry.i (number_of left) i out.old out.new result }
+fn one(parent: &Row, left: Option<NodeKind>, i: usize, out: &mut [u8]) -> usize
+    requires { (i < count_of parent.now.tree.records.now) × Run parent.now.tree.records.now parent.now.tree.texts.now (word_at parent.now.tree.records.now i 6) i }
+    ensures { WroteOne parent.now.tree.records.now parent.now.tree.texts.now parent.now.i (number_of left) i out.old out.new result }
 {
     let row = Row::of(parent.tree, i);
-    let mut n = parent.put_front(left, row, out);
+    let mut n = parent.put_front(left, &row, out);
     let a = upto(n, out.len());
     n += run(
-        row,
+        &row,
         None,
         i,
         children(parent.tree.records, i),
         &mut out[a..],
     );
     let b = upto(n, out.len());
-    n + parent.put_back(row, &mut out[b..])
+    n + parent.put_back(&row, &mut out[b..])
 }
 
 // The last `count` branches that end before the record `end`, first to last: each half of them by itself, so that calls stand no deeper
 // for many siblings than their number's digits.
 #[cycle(one_run)]
-fn run(parent: Row, left: Option<NodeKind>, end: usize, count: usize, out: &mut [u8]) -> usize
-    requires { (end ≤ count_of parent.tree.records.now) × Run parent.tree.records.now parent.tree.texts.now count end }
-    ensures { WroteRun parent.entry.tree.records.now parent.entry.tree.texts.now parent.entry.i (number_of left) count end out.old out.new result }
+fn run(parent: &Row, left: Option<NodeKind>, end: usize, count: usize, out: &mut [u8]) -> usize
+    requires { (end ≤ count_of parent.now.tree.records.now) × Run parent.now.tree.records.now parent.now.tree.texts.now count end }
+    ensures { WroteRun parent.now.tree.records.now parent.now.tree.texts.now parent.now.i (number_of left) count end out.old out.new result }
 {
     if count == 0 {
         return 0;
@@ -544,7 +544,7 @@ pub fn normal_text(tree: Tree, out: &mut [u8]) -> usize
     let last = count(tree.records) - 1;
     let children = children(tree.records, last);
     let root = Row::of(tree, last);
-    let n = run(root, None, last, children, out);
+    let n = run(&root, None, last, children, out);
     let a = upto(n, out.len());
     n + put_closing(root.value, root.last_class(), &mut out[a..])
 }

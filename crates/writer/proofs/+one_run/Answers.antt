@@ -10,20 +10,20 @@ use Rattle.writer.proofs.+one_run.Goals as goal
 pub one-run-n-requires : goal.one-run-n-requires
 one-run-n-requires t c =
     rw (c.of-row.ensures.records, c.of-row.ensures.texts) (
-      omega (arith, c.decreases, c.children.ensures.value, run-few c.requires.1, c.args.parent.lent.few),
+      omega (arith, c.decreases, c.children.ensures.value, run-few c.requires.1, c.args.parent.now.lent.few),
       (omega arith, recount c.children.ensures.value c.requires.1),
     )
 
 pub one-overflow_add-n : goal.one-overflow_add-n
 one-overflow_add-n t c =
-    let p = c.args.parent in
+    let p = c.args.parent.now in
     let kids = recount c.children.ensures.value c.requires.1 in
     let w = moved 0 c.of-row.ensures.records c.of-row.ensures.texts c.of-row.ensures.i c.run-n.ensures in
     omega (arith, p.lent.few, bounded c.put_front-n.ensures (front-small _ _ _), row_small p.lent p.i, row_small c.of-row.result.lent c.of-row.result.i, run_small p.lent _ _ kids (w kids))
 
 pub one-overflow_add-result : goal.one-overflow_add-result
 one-overflow_add-result t c =
-    let p = c.args.parent in
+    let p = c.args.parent.now in
     let kids = recount c.children.ensures.value c.requires.1 in
     let w = moved 0 c.of-row.ensures.records c.of-row.ensures.texts c.of-row.ensures.i c.run-n.ensures in
     omega (arith, p.lent.few, bounded c.put_front-n.ensures (front-small _ _ _), row_small p.lent p.i, row_small c.of-row.result.lent c.of-row.result.i, run_small p.lent _ _ kids (w kids), bounded c.put_back.ensures (back-small _ _ _))
@@ -55,7 +55,7 @@ run-run-n-requires t c =
     let half = c.args.count / 2 in
     let m = mid-first s half (omega arith) in
     let low = mid-low s half (omega arith) (omega arith) in (
-      omega (arith, c.decreases, c.args.parent.lent.few, c.requires.0, run-few s, c.first-mid.ensures, m, low),
+      omega (arith, c.decreases, c.args.parent.now.lent.few, c.requires.0, run-few s, c.first-mid.ensures, m, low),
       (omega (arith, c.requires.0, c.first-mid.ensures, m, low), left s half (omega arith) (c.first-mid.ensures ∙ m)),
     )
 
@@ -75,7 +75,7 @@ run-overflow_add-result t c =
     let m = mid-first s half (omega arith) in
     let lefts = left s half (omega arith) (c.first-mid.ensures ∙ m) in
     let rights = right s half (omega arith) in
-    omega (arith, c.args.parent.lent.few, c.requires.0, c.first-mid.ensures, m, mid-low s half (omega arith) (omega arith), run_small c.args.parent.lent _ _ lefts (c.run-n.ensures lefts), run_small c.args.parent.lent _ _ rights (c.run.ensures rights))
+    omega (arith, c.args.parent.now.lent.few, c.requires.0, c.first-mid.ensures, m, mid-low s half (omega arith) (omega arith), run_small c.args.parent.now.lent _ _ lefts (c.run-n.ensures lefts), run_small c.args.parent.now.lent _ _ rights (c.run.ensures rights))
 
 pub run-returns : goal.run-returns
 run-returns t c =

@@ -13,4 +13,4 @@ overflow_add-result c = omega (arith, bounded (rw c.close.ensures at c.put-n.ens
 
 pub returns : goal.returns
 unfolding back
-returns c = then (then (rw (c.close.ensures, c.args.row.kinds, c.args.row.values, c.last_class.ensures) at c.put-n.ensures) c.upto-a.ensures (rw (c.ends.ensures, c.setting_of.ensures, c.args.self.kinds, c.args.row.kinds, c.args.row.values) at c.put-n-2.ensures)) c.upto-b.ensures (rw (c.tail.ensures, c.class.ensures, c.args.self.kinds, c.args.row.kinds) at c.put.ensures)
+returns c = then (then (rw (c.close.ensures, c.args.row.now.kinds, c.args.row.now.values, c.last_class.ensures) at c.put-n.ensures) c.upto-a.ensures (rw (c.ends.ensures, c.setting_of.ensures, c.args.self.now.kinds, c.args.row.now.kinds, c.args.row.now.values) at c.put-n-2.ensures)) c.upto-b.ensures (rw (c.tail.ensures, c.class.ensures, c.args.self.now.kinds, c.args.row.now.kinds) at c.put.ensures)

@@ -10,8 +10,8 @@ overflow_add-n c = omega (arith, bounded (rw c.between.ensures at (then c.put-n.
 
 pub overflow_add-result : goal.overflow_add-result
 overflow_add-result c =
-    omega (arith, bounded (rw c.between.ensures at (then c.put-n.ensures c.upto-a.ensures c.put-n-2.ensures)) (between-small _ _ _), bounded c.put_source.ensures (source-small _ _), row_small c.args.self.lent c.args.self.i)
+    omega (arith, bounded (rw c.between.ensures at (then c.put-n.ensures c.upto-a.ensures c.put-n-2.ensures)) (between-small _ _ _), bounded c.put_source.ensures (source-small _ _), row_small c.args.self.now.lent c.args.self.now.i)
 
 pub returns : goal.returns
 unfolding link
-returns c = then (rw (c.between.ensures, c.args.self.kinds) at (then c.put-n.ensures c.upto-a.ensures c.put-n-2.ensures)) c.upto-b.ensures c.put_source.ensures
+returns c = then (rw (c.between.ensures, c.args.self.now.kinds) at (then c.put-n.ensures c.upto-a.ensures c.put-n-2.ensures)) c.upto-b.ensures c.put_source.ensures
