@@ -8,7 +8,7 @@ use native.Mathlib.Nat.{not-suc-le-zero}
 use mathlib.Core.Bool.{Bool, true, false, not}
 use lib.Dec.{eqb}
 use borrow.Author.Tests.{ne_eqb, eqb-true, eqb-false}
-use Rattle.std.specs.Option.{option_eq}
+use Rattle.std.specs.Option.{option_eq, MatchOption, IsSomeAnd}
 use lib.ListN.{length, take, drop, length-drop, length-append}
 use lib.Seq.{drop-drop, drop-append_seam, take_at}
 use Rattle.basics.specs.Basics.{head}
@@ -174,6 +174,21 @@ module _ (s : List ℕ) (at : ℕ) where
   unfolding first_at
   first_off e = rw (codes_off s at e)
 
+  -- the character by its code, if there is one
+  pub decoded : {c : ℕ} → Some c ≡ first_at s at → Some (c, width c) ≡ decode_at s at
+  decoded {c} h = by (decode_at s at) refl
+    where
+      by : (o : Option (ℕ × ℕ)) → decode_at s at ≡ o → Some (c, width c) ≡ o
+      by None e = let k : Some c ≡ None = h ∙ first_off e in impossible (cc)
+      by (Some (d, n)) e = let k : Some c ≡ Some d = h ∙ first-on e in let w = (stands_at s at e).wide in cc
+
+  pub decoded-none : None ≡ first_at s at → None ≡ decode_at s at
+  decoded-none h = by (decode_at s at) refl
+    where
+      by : (o : Option (ℕ × ℕ)) → decode_at s at ≡ o → None ≡ o
+      by None e = refl
+      by (Some (d, n)) e = let k : None ≡ Some d = h ∙ first-on e in impossible (cc)
+
   pub first_is : {x : ℕ} → Some x ≡ first_at s at → x ≡ peek_at s at
   unfolding first_at peek_at
   first_is {x} = by (codes (drop at s))
@@ -228,3 +243,10 @@ next-head s at x h h' = by (decode_at s at) refl
     by : (ch : Option (ℕ × ℕ)) → decode_at s at ≡ ch → peek_at s at ≡ x → Next s at x
     by None e g = let z = rw (codes_off s at e) at g in absurd (omega arith)
     by (Some (c, n)) e g = let z = sym (peek_on s at e) ∙ g in subst (Next s at) z (next_of s at e (omega arith))
+
+-- the code of a character that may be missing
+pub first-decoded : (s : List ℕ) (at : ℕ) (o : Option (ℕ × ℕ)) (r : Option ℕ) {Q : ℕ × ℕ → ℕ → Type 0} → o ≡ decode_at s at
+    → MatchOption o (r ≡ None) (λ x. IsSomeAnd r (Q x)) → ((x : ℕ × ℕ) (y : ℕ) → Q x y → y ≡ x.0) → r ≡ first_at s at
+first-decoded s at None r e m f = m ∙ sym (first_off s at (sym e))
+first-decoded s at (Some x) (Some y) e m f = ap Some (f x y m) ∙ sym (first-on s at (sym e))
+first-decoded s at (Some x) None e m f = absurd m

@@ -9,7 +9,7 @@ mod table;
 
 ghost use Rattle.std.specs.Prelude.{◌≡◌, List, ◌<◌, T, length, get_or};
 ghost use Rattle.basics.specs.Basics.{within};
-ghost use Rattle.characters.specs.Utf8.{lead_len, char_of, check, is_scalar};
+ghost use Rattle.characters.specs.Utf8.{lead_len, char_of, check, is_scalar, width};
 ghost use Rattle.characters.specs.Places.{decode_at, first_at};
 ghost use Rattle.characters.specs.Spans.{Span, in_spans};
 ghost use Rattle.characters.specs.Alphabetic.{is_alphabetic};
@@ -84,19 +84,36 @@ fn of_bytes(a: u32, b: u32, c: u32, d: u32) -> Option<(u32, usize)>
     }
 }
 
-// The character at a place within the text, by all four bytes: its code by table 3-6, and how many bytes it takes. It stays out of line:
-// inlined, it makes `scan_word` take 1.7 times as long on ASCII.
+// The code of the character at a place within the text, by all four bytes. It stays out of line: inlined, it makes `scan_word` take 1.7 times as
+// long on ASCII. It answers the code alone, which fits a register: an answer with the width beside it would be memory of the caller, which is
+// cleared at each turn of the loops that `decode` is taken into.
 #[inline(never)]
-fn decode_wide(text: &[u8], at: usize) -> Option<(u32, usize)>
+fn decode_wide(text: &[u8], at: usize) -> Option<u32>
     requires { at < length text.now }
-    ensures { result ≡ decode_at text.now at }
+    ensures { result ≡ first_at text.now at }
 {
     let rest = &text[at..];
     let a = byte_at(rest, 0);
     let b = byte_at(rest, 1);
     let c = byte_at(rest, 2);
     let d = byte_at(rest, 3);
-    of_bytes(a, b, c, d)
+    of_bytes(a, b, c, d).map(|(c, _)| c)
+}
+
+// How many bytes a code takes.
+fn width(code: u32) -> usize
+    ensures { result ≡ width code }
+{
+    if code < 0x80 {
+        return 1;
+    }
+    if code < 0x800 {
+        return 2;
+    }
+    if code < 0x10000 {
+        return 3;
+    }
+    4
 }
 
 // The character at a place: its code and how many bytes it takes. An ASCII byte is one by itself; the rest stands apart, so that callers
@@ -108,7 +125,8 @@ pub fn decode(text: &[u8], at: usize) -> Option<(u32, usize)>
     if a < 0x80 {
         return Some((a as u32, 1));
     }
-    decode_wide(text, at)
+    let c = decode_wide(text, at)?;
+    Some((c, width(c)))
 }
 
 // The code of the character at a place.
