@@ -22,16 +22,17 @@ pub fn upto(n: usize, len: usize) -> usize
     n.min(len)
 }
 
-// Bytes. A stored name is written so: its bytes are those of its characters already. Most texts of the walk are empty, and a copy of none
-// is spared.
+// Bytes. A stored name is written so: its bytes are those of its characters already. Byte by byte: `copy_from_slice` of some bytes, not known
+// how many, calls `memmove`, which the archives for C would need from outside, and most texts of the walk are none or a few bytes, for which
+// the call takes longer.
 pub fn put(s: &[u8], out: &mut [u8]) -> usize
     ensures { Wrote s.now out.old out.new result }
 {
-    if s.is_empty() {
-        return 0;
+    if out.len() < s.len() {
+        return s.len();
     }
-    if s.len() <= out.len() {
-        out[..s.len()].copy_from_slice(s);
+    for i in 0..s.len() {
+        out[i] = s[i];
     }
     s.len()
 }

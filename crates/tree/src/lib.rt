@@ -905,12 +905,19 @@ pub fn put_words(records: &mut [u32], at: usize, words: [u32; WIDTH]) -> usize
 }
 
 // Stores a text at a place where it fits there, and says how many bytes it takes in any case. Not one function with `put`: `written` is
-// of numbers and not of any type.
+// of numbers and not of any type. Byte by byte: `copy_from_slice` of some bytes, not known how many, calls `memmove`, which the archives for C
+// would need from outside, and most texts are a few bytes, for which the call takes longer.
 pub fn put_text(texts: &mut [u8], at: usize, text: &[u8]) -> usize
     ensures { (result ≡ length text.now) × (texts.new ≡ written texts.old at text.now) }
 {
-    if at <= texts.len() && text.len() <= texts.len() - at {
-        texts[at..at + text.len()].copy_from_slice(text);
+    if texts.len() < at {
+        return text.len();
+    }
+    if texts.len() - at < text.len() {
+        return text.len();
+    }
+    for i in 0..text.len() {
+        texts[at + i] = text[i];
     }
     text.len()
 }

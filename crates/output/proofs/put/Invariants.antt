@@ -1,0 +1,9 @@
+-- The first i bytes are written.
+use Prim.Native.Nat.{◌≤◌}
+use mathlib.Core.Path.{◌≡◌}
+use mathlib.Core.List.{◌++◌}
+use lib.ListN.{length, take, drop}
+use Rattle.output.proofs.put.Given as goal
+
+abbrev pub invariant-loop-i : goal.invariant-loop-i
+invariant-loop-i l = (l.i ≤ length l.s) × (length l.s ≤ length l.initial.out) × (l.out ≡ take l.i l.s ++ drop l.i l.initial.out)
