@@ -208,10 +208,6 @@ pub record Before (ws : List ℕ) (n x k : ℕ) : Type 0 where
   pub below : (i : ℕ) → i < k → get_or ws (2 * i) 0 ≤ x
   pub above : (i : ℕ) → k ≤ i → i < n → x < get_or ws (2 * i) 0
 
--- the words from `from` to `to` two places further on
-unfoldable pub opened : (from to : ℕ) → List ℕ → List ℕ
-opened from to ws = take (from + 2) ws ++ (take (to - from) (drop from ws) ++ drop (to + 2) ws)
-
 -- a span put among n others, unless it shares a code with one of them
 pub record Pushed (ws : List ℕ) (n : ℕ) (s : Span) (after : List ℕ) (met : Bool) : Type 0 where
   pub meets : met ≡ overlaps_one s (spans_in n ws)
