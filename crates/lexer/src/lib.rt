@@ -8,7 +8,7 @@ pub mod escapes; // what a backslash stands for, and the value of a string
 pub mod sets; // the spans of a set, and what stops it
 pub mod words; // keywords
 
-ghost use Rattle.std.specs.Prelude.{◌≡◌, Bool, false, ℕ, ◌+◌, ◌≤◌, ◌<◌, length, drop};
+ghost use Rattle.std.specs.Prelude.{◌≡◌, Bool, true, false, ℕ, ◌+◌, ◌≤◌, ◌<◌, length, drop, get_or, eqb};
 ghost use Rattle.characters.specs.Places.{chars_at, cut, run};
 ghost use Rattle.characters.specs.Promise.{Next};
 ghost use Rattle.characters.specs.Classes.{is_line_terminator, is_word};
@@ -136,6 +136,10 @@ fn skip_trivia(source: &[u8], from: usize) -> Result<usize, Stop>
         let start = cursor;
         cursor = start + 2;
         'block: loop {
+            if is_passed(source, cursor) {
+                cursor += 1;
+                continue 'block;
+            }
             let Some((e, m)) = characters::decode(source, cursor) else {
                 return Err(Stop {
                     cause: Cause::UnexpectedCharacter,
@@ -151,6 +155,13 @@ fn skip_trivia(source: &[u8], from: usize) -> Result<usize, Stop>
             }
         }
     }
+}
+
+// Whether an ASCII character other than `*` stands at a place: most of a comment is of these, and none of them can end it.
+fn is_passed(source: &[u8], at: usize) -> bool
+    ensures { result ≡ true → (at < length source.now) × (get_or source.now at 0 < 0x80) × (eqb (get_or source.now at 0) 0x2A ≡ false) }
+{
+    at < source.len() && source[at] < 0x80 && source[at] != b'*'
 }
 
 // The string at its quote. No line terminator belongs to it, not even after a backslash.

@@ -436,7 +436,9 @@ impl<'a> Row<'a> {
         n + self.put_source(child, &mut out[b..])
     }
 
-    // All that stands before the children of a child, behind one of the class `left`.
+    // All that stands before the children of a child, behind one of the class `left`. Out of line, as `put_back`: what it needs of the stack
+    // is then not held by each level of `one` and `run`.
+    #[inline(never)]
     fn put_front(&self, left: Option<NodeKind>, row: &Row, out: &mut [u8]) -> usize
         ensures { Wrote (front (row_of self.now) (number_of left) (row_of row.now)) out.old out.new result }
     {
@@ -466,6 +468,7 @@ impl<'a> Row<'a> {
     }
 
     // All that stands after the children of a child.
+    #[inline(never)]
     fn put_back(&self, row: &Row, out: &mut [u8]) -> usize
         ensures { Wrote (back (row_of self.now).kind (row_of row.now) (last_at row.now.tree.records.now row.now.i)) out.old out.new result }
     {

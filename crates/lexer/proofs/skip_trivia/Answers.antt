@@ -2,9 +2,10 @@
 use native.Mathlib.Omega.{arith}
 use mathlib.Core.Path.{sym, ◌∙◌, ap}
 use Rattle.lexer.proofs.Tokens.{not_terminator, space-on, line-start, block_start, block-other, block_star, block_shut, shut_inside, block-end, settled-other, settled_slash, settled-ill}
+use borrow.Author.Tests.{eqb-false}
 use Rattle.characters.proofs.Runs.{run-ill, run_on, run_off}
 use Rattle.lexer.specs.Promise.{tokens_at}
-use Rattle.characters.proofs.Laws.{scalar_fits}
+use Rattle.characters.proofs.Laws.{scalar_fits, ascii-at}
 use Rattle.characters.proofs.Chars.{next-head, eq_yes, eq_no, ne_yes, ne_no}
 use Rattle.lexer.proofs.skip_trivia.Goals as goal
 
@@ -134,6 +135,13 @@ pub block-smaller : goal.block-smaller
 block-smaller c = let d₃ = sym c.decode-in-block.ensures ∙ c.in-Some-decode-2.is in
     let f = scalar_fits _ _ d₃ in
     omega arith
+
+pub block-preserved-then-is_passed : goal.block-preserved-then-is_passed
+block-preserved-then-is_passed c = let p = c.is_passed.ensures c.if-is_passed.true in (
+  omega (arith, c.block.invariant.0),
+  omega arith,
+  sym (block-other _ _ _ (ascii-at _ _ p.0 p.1) (eqb-false _ _ p.2)) ∙ c.block.invariant.2,
+)
 
 pub block-preserved : goal.block-preserved
 block-preserved c = let d₃ = sym c.decode-in-block.ensures ∙ c.in-Some-decode-2.is in
