@@ -108,13 +108,12 @@ typedef struct {
 
 /* Bytes of stack that are enough for hemvuda_measure, hemvuda_read and hemvuda_structurally_eq, and for
  * hemvuda_normal_text, whatever the text. They are measured: compare/stack runs the calls on a stack that is filled
- * with one byte before, on some 5,600 texts that go as deep as a text may. The most that was used is 177,128 bytes to
- * measure, 177,688 to read, 328 to compare and 1,985,296 to write a normal text. Only a text with 64 levels and 64
- * repeats over each takes so much: without such repeats writing takes 246,416 bytes at most, and the grammars in
- * examples/ take less than 20,000 for any call. Threads often have less than 2 MiB: give the thread that writes normal
- * texts enough. */
+ * with one byte before, on some 5,600 texts that go as deep as a text may. The most that was used is 169,656 bytes to
+ * measure, 170,152 to read, 328 to compare and 542,600 to write a normal text. Only a text with 64 levels and 64
+ * repeats over each takes so much: without such repeats writing takes 170,264 bytes at most, and the grammars in
+ * examples/ take less than 14,000 for any call. */
 #define HEMVUDA_STACK_TO_READ 196608
-#define HEMVUDA_STACK_TO_WRITE 2097152
+#define HEMVUDA_STACK_TO_WRITE 655360
 
 /* ------------------------------------------------------------------------------------------------------------------- records
  *
