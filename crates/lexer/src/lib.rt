@@ -161,7 +161,7 @@ fn skip_trivia(source: &[u8], from: usize) -> Result<usize, Stop>
 fn is_passed(source: &[u8], at: usize) -> bool
     ensures { result ≡ true → (at < length source.now) × (get_or source.now at 0 < 0x80) × (eqb (get_or source.now at 0) 0x2A ≡ false) }
 {
-    at < source.len() && source[at] < 0x80 && source[at] != b'*'
+    at < source.len() && matches!(source[at], 0..=0x29 | 0x2B..=0x7F)
 }
 
 // The string at its quote. No line terminator belongs to it, not even after a backslash.

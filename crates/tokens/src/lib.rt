@@ -139,6 +139,7 @@ pub fn eat_identifier_value(source: &[u8], token: Token, word: &[u8]) -> Result<
 }
 
 // The current token is taken if it is `@` and this word.
+#[inline(always)]
 pub fn eat_at(source: &[u8], token: Token, word: &[u8]) -> Result<Option<Token>, Stop>
     requires { Whole source.now (at_of token) }
     ensures { EatsAt source.now token word.now result }

@@ -1,10 +1,10 @@
--- What a record's own text is, and what stands before a source string, by the kind in the code.
+-- What a record's own text is, what stands between lists, and what stands before a source string, by the kind in the code.
 -- Assumes nothing.
 use Prim.Native.Nat.{ℕ, zero, suc, ◌≤◌}
 use native.Mathlib.Omega.{arith}
 use mathlib.Core.Path.{◌≡◌, refl}
 use mathlib.Core.Bool.{false}
-use mathlib.Core.List.{List, [], ◌∷◌}
+use mathlib.Core.List.{List, [], ◌∷◌, ◌++◌}
 use mathlib.Core.Logic.{◌⊎◌, inl, inr}
 use lib.Dec.{eqb}
 use Rattle.basics.specs.Basics.{among}
@@ -16,7 +16,7 @@ use Rattle.tree.specs.OneTree.{is_kind}
 use Rattle.tree.specs.Promise.{count_of, kind_number, kind_before}
 use Rattle.tree.specs.declared.NodeKind.{NodeKind}
 use Rattle.writer.specs.Promise.{Lent}
-use Rattle.writer.specs.Walk.{class, spelled}
+use Rattle.writer.specs.Walk.{class, opens, shuts, separator, between, spelled}
 
 pub source-none : (k : NodeKind) → (k ≡ NodeKind.Source → ⊥) → eqb (kind_number k) 15 ≡ false
 source-none k h = grind arith
@@ -57,3 +57,16 @@ module _ (r : Row) (k : NodeKind) (e : kind_number k ≡ r.kind) where
     pub spelled-name : spelled r ≡ r.text
     unfolding spelled
     spelled-name = rw (← e, no-string, no-span, no_source)
+
+module _ (k : NodeKind) (g : k ≡ NodeKind.Grammar → ⊥) (t : k ≡ NodeKind.Tokens → ⊥) (l : k ≡ NodeKind.LocalTokens → ⊥)
+    (s : k ≡ NodeKind.ScopedSkip → ⊥) (q : k ≡ NodeKind.Sequence → ⊥) (e : k ≡ NodeKind.Set → ⊥) where
+  no-lines : eqb (kind_number k) 1 ≡ false
+  no-lines = grind arith
+
+  no-opener : among (8 ∷ 12 ∷ 23 ∷ 34 ∷ 37 ∷ []) (kind_number k) ≡ false
+  no-opener = grind arith
+
+  -- one list ends and another begins
+  pub between-lists : (a c : ℕ) → eqb a c ≡ false → between (kind_number k) a c ≡ shuts a ++ opens (kind_number k) c
+  unfolding between separator
+  between-lists a c h = rw (no-lines, no-opener, h)

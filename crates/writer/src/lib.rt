@@ -319,22 +319,22 @@ fn follows(left: Option<NodeKind>, child: NodeKind) -> bool
 
 // Between two children: what ends the list of the one, and what goes on with it or begins that of the other.
 #[tactic(auto, unfolding(crate::specs::Walk::between, crate::specs::Walk::separator))]
-fn between(
-    parent: NodeKind,
-    left: Option<NodeKind>,
-    child: NodeKind,
-) -> (&'static [u8], &'static [u8])
-    ensures { result.0.now ++ result.1.now ≡ between (kind_number parent) (number_of left) (kind_number child) }
+fn put_between(parent: NodeKind, left: Option<NodeKind>, child: NodeKind, out: &mut [u8]) -> usize
+    ensures { Wrote (between (kind_number parent) (number_of left) (kind_number child)) out.old out.new result }
 {
     match parent {
-        NodeKind::Grammar => (b"", new_line(left, child)),
+        NodeKind::Grammar => put(new_line(left, child), out),
         NodeKind::Tokens
         | NodeKind::LocalTokens
         | NodeKind::ScopedSkip
         | NodeKind::Sequence
-        | NodeKind::Set => (b"", opens(parent, child)),
-        _ if follows(left, child) => (b"", comma(parent, child)),
-        _ => (shuts(left), opens(parent, child)),
+        | NodeKind::Set => put(opens(parent, child), out),
+        _ if follows(left, child) => put(comma(parent, child), out),
+        _ => {
+            let n = put(shuts(left), out);
+            let a = upto(n, out.len());
+            n + put(opens(parent, child), &mut out[a..])
+        }
     }
 }
 
@@ -353,31 +353,32 @@ impl<'a> Row<'a> {
         }
     }
 
-    // What stands before it: a space, or an opening bracket.
+    // What stands before it: a space, or an opening bracket. It and `put_ends` write: a text that is handed on is written by a loop, and
+    // these stand at each record.
     #[tactic(auto, unfolding(crate::specs::Walk::lead))]
-    fn lead(&self, setting: Setting) -> &'static [u8]
-        ensures { result.now ≡ lead (setting_number setting) (kind_number self.now.kind) self.now.value }
+    fn put_lead(&self, setting: Setting, out: &mut [u8]) -> usize
+        ensures { Wrote (lead (setting_number setting) (kind_number self.now.kind) self.now.value) out.old out.new result }
     {
         if self.is_bracketed(setting) {
-            b" ("
+            put(b" (", out)
         } else if is_tokenless(self.kind, self.value) || is_line(setting, self.kind) {
-            b""
+            0
         } else {
-            b" "
+            put(b" ", out)
         }
     }
 
     // What stands after it: a closing bracket, or a line feed.
     #[tactic(auto, unfolding(crate::specs::Walk::ends))]
-    fn ends(&self, setting: Setting) -> &'static [u8]
-        ensures { result.now ≡ ends (setting_number setting) (kind_number self.now.kind) self.now.value }
+    fn put_ends(&self, setting: Setting, out: &mut [u8]) -> usize
+        ensures { Wrote (ends (setting_number setting) (kind_number self.now.kind) self.now.value) out.old out.new result }
     {
         if self.is_bracketed(setting) {
-            b" )"
+            put(b" )", out)
         } else if is_line(setting, self.kind) {
-            b"\n"
+            put(b"\n", out)
         } else {
-            b""
+            0
         }
     }
 
@@ -428,12 +429,9 @@ impl<'a> Row<'a> {
     fn put_link(&self, left: Option<NodeKind>, child: NodeKind, out: &mut [u8]) -> usize
         ensures { Wrote (link (row_of self.now) (number_of left) (kind_number child)) out.old out.new result }
     {
-        let (end, start) = between(self.kind, left, child);
-        let mut n = put(end, out);
+        let n = put_between(self.kind, left, child, out);
         let a = upto(n, out.len());
-        n += put(start, &mut out[a..]);
-        let b = upto(n, out.len());
-        n + self.put_source(child, &mut out[b..])
+        n + self.put_source(child, &mut out[a..])
     }
 
     // All that stands before the children of a child, behind one of the class `left`. Out of line, as `put_back`: what it needs of the stack
@@ -444,7 +442,7 @@ impl<'a> Row<'a> {
     {
         let mut n = self.put_link(left, class(row.kind), out);
         let a = upto(n, out.len());
-        n += put(row.lead(setting_of(self.kind)), &mut out[a..]);
+        n += row.put_lead(setting_of(self.kind), &mut out[a..]);
         let b = upto(n, out.len());
         n + row.put_own(&mut out[b..])
     }
@@ -474,7 +472,7 @@ impl<'a> Row<'a> {
     {
         let mut n = put(close(row.kind, row.value, row.last_class()), out);
         let a = upto(n, out.len());
-        n += put(row.ends(setting_of(self.kind)), &mut out[a..]);
+        n += row.put_ends(setting_of(self.kind), &mut out[a..]);
         let b = upto(n, out.len());
         n + put(tail(self.kind, class(row.kind)), &mut out[b..])
     }
@@ -489,6 +487,19 @@ fn children(records: &[u32], i: usize) -> usize
     word(records, i, CHILDREN) as usize
 }
 
+// The children of a record. Most records have none, and then `run` is not called.
+#[cycle(one_run)]
+#[inline(always)]
+fn inside(row: &Row, out: &mut [u8]) -> usize
+    requires { Run row.now.tree.records.now row.now.tree.texts.now (word_at row.now.tree.records.now row.now.i 6) row.now.i }
+    ensures { WroteRun row.now.tree.records.now row.now.tree.texts.now row.now.i 0 (word_at row.now.tree.records.now row.now.i 6) row.now.i out.old out.new result }
+{
+    match children(row.tree.records, row.i) {
+        0 => 0,
+        count => run(row, None, row.i, count, out),
+    }
+}
+
 // The branch whose record is i, a child of the record `parent` behind one of the class `left`.
 #[cycle(one_run)]
 fn one(parent: &Row, left: Option<NodeKind>, i: usize, out: &mut [u8]) -> usize
@@ -498,13 +509,7 @@ fn one(parent: &Row, left: Option<NodeKind>, i: usize, out: &mut [u8]) -> usize
     let row = Row::of(parent.tree, i);
     let mut n = parent.put_front(left, &row, out);
     let a = upto(n, out.len());
-    n += run(
-        &row,
-        None,
-        i,
-        children(parent.tree.records, i),
-        &mut out[a..],
-    );
+    n += inside(&row, &mut out[a..]);
     let b = upto(n, out.len());
     n + parent.put_back(&row, &mut out[b..])
 }

@@ -1,39 +1,46 @@
--- `writer::one` and `writer::run` meet their contracts. Assumes nothing.
+-- `writer::inside`, `writer::one` and `writer::run` meet their contracts. Assumes nothing.
 use Prim.Native.Nat.{◌/◌}
 use mathlib.Core.Path.{◌∙◌}
 use native.Mathlib.Omega.{arith}
 use Rattle.output.proofs.Writes.{wrote_none, then}
 use Rattle.writer.proofs.Small.{bounded, row_small, front-small, back-small}
-use Rattle.writer.proofs.Runs.{text-none, only, branch-says, right, mid-first, left, mid-low, halves, run_small, run-few, recount, moved}
+use Rattle.writer.proofs.Runs.{text-none, only, branch-says, right, mid-first, left, mid-low, halves, run_small, run-few, recount}
 use Rattle.writer.proofs.+one_run.Goals as goal
 
-pub one-run-n-requires : goal.one-run-n-requires
-one-run-n-requires t c =
-    rw (c.of-row.ensures.records, c.of-row.ensures.texts) (
-      omega (arith, c.decreases, c.children.ensures.value, run-few c.requires.1, c.args.parent.now.lent.few),
-      (omega arith, recount c.children.ensures.value c.requires.1),
-    )
+pub inside-run-requires : goal.inside-run-requires
+inside-run-requires t c =
+    let r = c.args.row.now in
+    let kids = recount c.children.ensures.value c.requires in
+    (omega (arith, c.decreases, c.children.ensures.value, run-few c.requires, r.lent.few, r.there), (omega (arith, r.there), kids))
+
+pub inside-returns-in-0 : goal.inside-returns-in-0
+inside-returns-in-0 t c = λ s. rw (text-none _ _ (recount c.children.ensures.value s) c.in-0.is) (wrote_none _)
+
+pub inside-returns-in_default : goal.inside-returns-in_default
+inside-returns-in_default t c = λ s. c.run.ensures (recount c.children.ensures.value s)
+
+pub one-inside-n-requires : goal.one-inside-n-requires
+one-inside-n-requires t c =
+    rw (c.of-row.ensures.records, c.of-row.ensures.texts, c.of-row.ensures.i) (omega (arith, c.decreases), c.requires.1)
 
 pub one-overflow_add-n : goal.one-overflow_add-n
 one-overflow_add-n t c =
     let p = c.args.parent.now in
-    let kids = recount c.children.ensures.value c.requires.1 in
-    let w = moved 0 c.of-row.ensures.records c.of-row.ensures.texts c.of-row.ensures.i c.run-n.ensures in
-    omega (arith, p.lent.few, bounded c.put_front-n.ensures (front-small _ _ _), row_small p.lent p.i, row_small c.of-row.result.lent c.of-row.result.i, run_small p.lent _ _ kids (w kids))
+    let w = rw (c.of-row.ensures.records, c.of-row.ensures.texts, c.of-row.ensures.i) at c.inside-n.ensures in
+    omega (arith, p.lent.few, bounded c.put_front-n.ensures (front-small _ _ _), row_small p.lent p.i, row_small c.of-row.result.lent c.of-row.result.i, run_small p.lent _ _ c.requires.1 (w c.requires.1))
 
 pub one-overflow_add-result : goal.one-overflow_add-result
 one-overflow_add-result t c =
     let p = c.args.parent.now in
-    let kids = recount c.children.ensures.value c.requires.1 in
-    let w = moved 0 c.of-row.ensures.records c.of-row.ensures.texts c.of-row.ensures.i c.run-n.ensures in
-    omega (arith, p.lent.few, bounded c.put_front-n.ensures (front-small _ _ _), row_small p.lent p.i, row_small c.of-row.result.lent c.of-row.result.i, run_small p.lent _ _ kids (w kids), bounded c.put_back.ensures (back-small _ _ _))
+    let w = rw (c.of-row.ensures.records, c.of-row.ensures.texts, c.of-row.ensures.i) at c.inside-n.ensures in
+    omega (arith, p.lent.few, bounded c.put_front-n.ensures (front-small _ _ _), row_small p.lent p.i, row_small c.of-row.result.lent c.of-row.result.i, run_small p.lent _ _ c.requires.1 (w c.requires.1), bounded c.put_back.ensures (back-small _ _ _))
 
 pub one-returns : goal.one-returns
 one-returns t c = λ s.
-    let w = moved 0 c.of-row.ensures.records c.of-row.ensures.texts c.of-row.ensures.i c.run-n.ensures in
+    let w = rw (c.of-row.ensures.records, c.of-row.ensures.texts, c.of-row.ensures.i) at c.inside-n.ensures in
     let front = rw (c.of-row.ensures.records, c.of-row.ensures.texts, c.of-row.ensures.i) at c.put_front-n.ensures in
     let back = rw (c.of-row.ensures.records, c.of-row.ensures.texts, c.of-row.ensures.i) at c.put_back.ensures in
-    rw (branch-says _ _ _ s) (then (then front c.upto-a.ensures (w (recount c.children.ensures.value s))) c.upto-b.ensures back)
+    rw (branch-says _ _ _ s) (then (then front c.upto-a.ensures (w s)) c.upto-b.ensures back)
 
 pub run-returns-then-count-eq0 : goal.run-returns-then-count-eq0
 run-returns-then-count-eq0 t c = λ s. rw (text-none _ _ s c.if-count-eq0.true) (wrote_none _)

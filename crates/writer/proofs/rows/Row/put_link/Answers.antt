@@ -5,13 +5,9 @@ use Rattle.output.proofs.Writes.{then}
 use Rattle.writer.proofs.Small.{bounded, row_small, between-small, source-small}
 use Rattle.writer.proofs.rows.Row.put_link.Goals as goal
 
-pub overflow_add-n : goal.overflow_add-n
-overflow_add-n c = omega (arith, bounded (rw c.between.ensures at (then c.put-n.ensures c.upto-a.ensures c.put-n-2.ensures)) (between-small _ _ _))
-
 pub overflow_add-result : goal.overflow_add-result
-overflow_add-result c =
-    omega (arith, bounded (rw c.between.ensures at (then c.put-n.ensures c.upto-a.ensures c.put-n-2.ensures)) (between-small _ _ _), bounded c.put_source.ensures (source-small _ _), row_small c.args.self.now.lent c.args.self.now.i)
+overflow_add-result c = omega (arith, bounded c.put_between-n.ensures (between-small _ _ _), bounded c.put_source.ensures (source-small _ _), row_small c.args.self.now.lent c.args.self.now.i)
 
 pub returns : goal.returns
 unfolding link
-returns c = then (rw (c.between.ensures, c.args.self.now.kinds) at (then c.put-n.ensures c.upto-a.ensures c.put-n-2.ensures)) c.upto-b.ensures c.put_source.ensures
+returns c = then (rw c.args.self.now.kinds at c.put_between-n.ensures) c.upto-a.ensures c.put_source.ensures
