@@ -107,13 +107,13 @@ typedef struct {
 #define HEMVUDA_TEXTS_FOR(n) ((size_t)6 * (n))
 
 /* Bytes of stack that are enough for hemvuda_measure, hemvuda_read and hemvuda_structurally_eq, and for
- * hemvuda_normal_text, whatever the text. They are measured: compare/stack runs the calls on a stack that is filled
- * with one byte before, on some 5,600 texts that go as deep as a text may. The most that was used is 169,656 bytes to
- * measure, 170,152 to read, 328 to compare and 542,600 to write a normal text. Only a text with 64 levels and 64
- * repeats over each takes so much: without such repeats writing takes 170,264 bytes at most, and the grammars in
- * examples/ take less than 14,000 for any call. */
+ * hemvuda_normal_text. They are measured, and not proved: compare/stack runs the calls on a stack that is filled with
+ * one byte before, on texts that go as deep as a text may, with long lists at each level. The most that was used is
+ * 169,656 bytes to measure, 170,152 to read, 328 to compare and 742,776 to write a normal text; HEMVUDA_STACK_TO_WRITE
+ * leaves room beside that. Only a text with 64 levels and 64 repeats over each takes so much: without such repeats
+ * writing takes 226,680 bytes at most, and the grammars in examples/ take less than 14,000 for any call. */
 #define HEMVUDA_STACK_TO_READ 196608
-#define HEMVUDA_STACK_TO_WRITE 655360
+#define HEMVUDA_STACK_TO_WRITE 1048576
 
 /* ------------------------------------------------------------------------------------------------------------------- records
  *

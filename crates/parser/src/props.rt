@@ -126,7 +126,7 @@ pub fn optional<F: Fn(&[u8], Token, &mut Store) -> Result<(Token, usize), Stop>>
     }
 }
 
-// A part with these bytes for its text: the token is taken. Inlined: as a call it takes a quarter of the time of a part.
+// A part with these bytes for its text: the token is taken. Inlined: as a call it takes a quarter of the instructions of a part.
 #[inline(always)]
 fn part_value(
     source: &[u8],

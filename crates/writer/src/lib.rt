@@ -353,8 +353,8 @@ impl<'a> Row<'a> {
         }
     }
 
-    // What stands before it: a space, or an opening bracket. It and `put_ends` write: a text that is handed on is written by a loop, and
-    // these stand at each record.
+    // What stands before it: a space, or an opening bracket. This and `put_ends` are no tables of texts: `put` of a text that is known where it
+    // is called is no loop, and one of the two writes at most records.
     #[tactic(auto, unfolding(crate::specs::Walk::lead))]
     fn put_lead(&self, setting: Setting, out: &mut [u8]) -> usize
         ensures { Wrote (lead (setting_number setting) (kind_number self.now.kind) self.now.value) out.old out.new result }
@@ -487,7 +487,7 @@ fn children(records: &[u32], i: usize) -> usize
     word(records, i, CHILDREN) as usize
 }
 
-// The children of a record. Most records have none, and then `run` is not called.
+// The children of a record. Many records have none, and then `run` is not called.
 #[cycle(one_run)]
 #[inline(always)]
 fn inside(row: &Row, out: &mut [u8]) -> usize
