@@ -108,7 +108,7 @@ typedef struct {
 
 /* Bytes of stack that are enough for hemvuda_measure, hemvuda_read and hemvuda_structurally_eq, and for
  * hemvuda_normal_text. They are measured, and not proved: compare/stack runs the calls on a stack that is filled with
- * one byte before, on some 5,800 texts that go as deep as a text may, with long lists at each level. The most that was
+ * one byte before, on some 6,200 texts that go as deep as a text may, with long lists at each level. The most that was
  * used is 169,560 bytes to measure, 170,056 to read, 328 to compare and 746,360 to write a normal text; so
  * HEMVUDA_STACK_TO_WRITE leaves room. Only a text with 64 levels and 64 repeats over each takes so much: without such
  * repeats writing takes 234,744 bytes at most, and the grammars in examples/ take less than 14,000 for any call. */
